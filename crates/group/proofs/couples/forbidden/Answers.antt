@@ -1,0 +1,1 @@
+use Rattle.group.proofs.couples.forbidden.Needs as need

@@ -1,0 +1,3 @@
+pub mod Algebra
+pub mod Answered
+pub mod Joins

@@ -1,0 +1,4 @@
+pub mod Kind
+pub mod Kinds
+pub mod Join
+pub mod Theorems

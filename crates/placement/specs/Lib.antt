@@ -1,0 +1,10 @@
+pub mod Walks
+pub mod Meaning
+pub mod Couples
+pub mod Placements
+pub mod Downward
+pub mod Across
+pub mod Rule
+pub mod Theorems
+pub mod Witnesses
+pub mod PlacedRow

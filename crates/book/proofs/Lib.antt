@@ -6,3 +6,7 @@ pub mod Pigeonhole
 pub mod Tables
 pub mod Inverses
 pub mod Turned
+pub mod Standing
+pub mod Trees
+pub mod Holding
+pub mod Reading

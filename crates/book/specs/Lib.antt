@@ -4,4 +4,6 @@ pub mod Counts
 pub mod Rows
 pub mod Places
 pub mod Sequence
+pub mod Slicing
+pub mod Waiting
 pub mod Turns

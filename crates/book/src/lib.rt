@@ -5,6 +5,8 @@ mod layers;
 mod relation;
 mod sequence_book;
 mod sequence_pair;
+mod slicing;
+mod slicing_book;
 
 pub use asking::is_above;
 pub use asking::is_left;
@@ -23,3 +25,8 @@ pub use relation::RelationDisplay;
 pub use relation::RelationPartialEq;
 pub use sequence_book::SequenceBook;
 pub use sequence_pair::SequencePair;
+pub use slicing_book::Slicing;
+pub use slicing_book::SlicingBook;
+pub use slicing_book::beside_earlier_is_left;
+pub use slicing_book::expression_never_refused;
+pub use slicing_book::stacked_later_is_above;

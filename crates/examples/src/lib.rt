@@ -6,4 +6,6 @@ mod lengths;
 #[cfg(test)]
 mod sequence_pairs;
 #[cfg(test)]
+mod sheets;
+#[cfg(test)]
 mod slicing_expressions;

@@ -70,3 +70,7 @@ pub record Fine (n : ℕ) (mate : Mates) (a b : ℕ) : Type 0 where
 
 pub fine : (n : ℕ) (mate : Mates) (a b : ℕ) → _≡_ {A = Answer} (Ok tt) (pair-check n mate a b) → Fine n mate a b
 fine n mate a b e = record { a-in = grind (arith, tells); b-in = grind (arith, tells); differ = grind (arith, tells); a-free = grind (arith, tells); b-free = grind (arith, tells) }
+
+-- what an `Ok` of the checks of `centre` tells
+pub centre-ok : (n : ℕ) (mate : Mates) (a : ℕ) → _≡_ {A = Answer} (Ok tt) (centre-check n mate a) → (a < n) × (grouped mate a ≡ false)
+centre-ok n mate a e = (grind (arith, tells), grind (arith, tells))

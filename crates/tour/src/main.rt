@@ -13,9 +13,16 @@ use length::Length;
 use length::PerProcess;
 use length::PerProcessDisplay;
 use length::PerProcessLength;
+use length::Plain;
+use length::PlainLength;
+use placing::Extent;
 use refusal::RefusalDisplay;
 use refusal::SheetFault;
 use refusal::SheetFaultDisplay;
+use sheet::Answer;
+use sheet::Coordinates;
+use sheet::Step;
+use sheet::run;
 use std::io;
 
 /// The cells of one channel: the amplifier, two matched transistor pairs and the bias cell.
@@ -32,6 +39,11 @@ const SECOND_ROW: [usize; 6] = [1, 0, 2, 3, 5, 4];
 
 /// The same as a slicing expression: 6 joins two parts side by side, 7 stacks them.
 const EXPRESSION: [usize; 11] = [1, 0, 6, 2, 6, 3, 5, 6, 4, 6, 7];
+
+/// The sizes of the channel's cells.
+const WIDTHS: [Plain; 6] = [Plain(6), Plain(4), Plain(4), Plain(5), Plain(5), Plain(4)];
+
+const HEIGHTS: [Plain; 6] = [Plain(3), Plain(2), Plain(2), Plain(2), Plain(2), Plain(1)];
 
 /// What a fault says, in words and as the five numbers that come out.
 fn print_refusal(rt: &LibcRuntime, fault: SheetFault) -> io::Result<()> {
@@ -138,8 +150,120 @@ fn tour_lengths(rt: &LibcRuntime) -> io::Result<()> {
     Ok(())
 }
 
+/// What the steps of the sheet's run are, in words.
+const STEPS: [&str; 9] = [
+    "pair in- and in+",
+    "pair load- and load+",
+    "centre amp",
+    "centre bias",
+    "place",
+    "swap in- and load-",
+    "swap amp and bias",
+    "release bias",
+    "place",
+];
+
+/// The digit that stands for a cell in a drawing.
+const DIGITS: [&str; 6] = ["0", "1", "2", "3", "4", "5"];
+
+/// The cell that covers one unit of the grid, if any.
+fn cell_at(
+    placed: &Coordinates<Plain>,
+    widths: &[Plain],
+    heights: &[Plain],
+    column: u64,
+    row: u64,
+) -> Option<usize> {
+    for a in 0..widths.len() {
+        if a < placed.x.len() && a < placed.y.len() && a < heights.len() {
+            let (left, bottom) = (placed.x[a].0 as u64, placed.y[a].0 as u64);
+            let (right, top) = (left + widths[a].0 as u64, bottom + heights[a].0 as u64);
+            if left <= column && column < right && bottom <= row && row < top {
+                return Some(a);
+            }
+        }
+    }
+    None
+}
+
+/// A drawing of a placement, a unit of the grid to a digit, the axis marked under it.
+fn draw(
+    rt: &LibcRuntime,
+    placed: &Coordinates<Plain>,
+    widths: &[Plain],
+    heights: &[Plain],
+) -> io::Result<()> {
+    let Extent { half_span, depth } = placed.extent;
+    for row in (0..depth.0 as u64).rev() {
+        print!(rt, "    ")?;
+        for column in 0..2 * half_span.0 as u64 {
+            match cell_at(placed, widths, heights, column, row) {
+                Some(a) if a < DIGITS.len() => print!(rt, "{}", DIGITS[a])?,
+                _ => print!(rt, ".")?,
+            }
+        }
+        println!(rt, "")?;
+    }
+    print!(rt, "    ")?;
+    for _ in 0..half_span.0 {
+        print!(rt, " ")?;
+    }
+    println!(rt, "^ axis")
+}
+
+/// What one step came to.
+fn print_answer(
+    rt: &LibcRuntime,
+    step: &str,
+    answer: &Answer<Plain>,
+    widths: &[Plain],
+    heights: &[Plain],
+) -> io::Result<()> {
+    println!(rt, "  {step}")?;
+    match answer {
+        Answer::Edited => Ok(()),
+        Answer::Refused(fault) => print_refusal(rt, *fault),
+        Answer::Placed(placed) => draw(rt, placed, widths, heights),
+    }
+}
+
+/// The steps of the sheet's run, placed with these sizes.
+fn channel_steps<'a>(widths: &'a [Plain], heights: &'a [Plain]) -> [Step<'a, Plain>; 9] {
+    [
+        Step::Pair(1, 2),
+        Step::Pair(3, 4),
+        Step::Centre(AMPLIFIER),
+        Step::Centre(BIAS),
+        Step::Place(widths, heights),
+        Step::Swap(1, 3),
+        Step::Swap(AMPLIFIER, BIAS),
+        Step::Release(BIAS),
+        Step::Place(widths, heights),
+    ]
+}
+
+/// The channel as a sheet: edits, a refused swap, and placements.
+fn tour_sheet<'a>(rt: &LibcRuntime, widths: &'a [Plain], heights: &'a [Plain]) -> io::Result<()> {
+    println!(
+        rt,
+        "The channel as a sheet: its pairs mirror each other, amp and bias are centred on the axis."
+    )?;
+    let channel = match SequencePair::new(NAMES.len(), &FIRST_ROW, &SECOND_ROW) {
+        Ok(book) => book,
+        Err(fault) => return print_refusal(rt, fault),
+    };
+    let steps = channel_steps(widths, heights);
+    let answers = run(rt.alloc(), channel, &steps)?;
+    for (step, answer) in STEPS.iter().zip(answers.iter()) {
+        print_answer(rt, step, answer, widths, heights)?;
+    }
+    Ok(())
+}
+
 fn main(rt: LibcRuntime) -> io::Result<()> {
     tour_rows(&rt)?;
     tour_layers(&rt)?;
-    tour_lengths(&rt)
+    tour_lengths(&rt)?;
+    println!(rt, "")?;
+    tour_sheet(&rt, &WIDTHS, &HEIGHTS)
 }

@@ -1,0 +1,6 @@
+mod Digits
+mod Sets
+mod Links
+mod Weights
+mod Begins
+mod Loops

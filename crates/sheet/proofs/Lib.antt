@@ -1,0 +1,10 @@
+pub mod Same
+pub mod Outcomes
+pub mod Restored
+pub mod TakenBack
+pub mod Released
+pub mod SwapChecks
+pub mod Exits
+pub mod Running
+pub mod Anew
+pub mod Telling

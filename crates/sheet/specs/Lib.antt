@@ -1,0 +1,4 @@
+pub mod Sheets
+pub mod Edits
+pub mod Alike
+pub mod Runs

@@ -20,12 +20,12 @@ pub record TwoOrders {C : Type 0} (P Q : C → C → Type 0) : Type 0 where
   pub P-not-turned-Q : {u v : C} → P u v → Q v u → ⊥
 
 -- two couples of orders that are never opposite; where they are, E
-pub record Compatible {C : Type 0} (P1 Q1 P2 Q2 : C → C → Type 0) (E : Type 0) : Type 0 where
-  pub opposed-P : {u v : C} → P1 u v → P2 v u → E
-  pub opposed-Q : {u v : C} → Q1 u v → Q2 v u → E
+pub record Compatible {C : Type 0} (Pa Qa Pb Qb : C → C → Type 0) (E : Type 0) : Type 0 where
+  pub opposed-P : {u v : C} → Pa u v → Pb v u → E
+  pub opposed-Q : {u v : C} → Qa u v → Qb v u → E
 
 abbrev pub Either : {C : Type 0} → (C → C → Type 0) → (C → C → Type 0) → C → C → Type 0
-Either P1 P2 u v = P1 u v ⊎ P2 u v
+Either Pa Pb u v = Pa u v ⊎ Pb u v
 
 -- u before v in "P or Q", or the same
 abbrev pub First : {C : Type 0} → (C → C → Type 0) → (C → C → Type 0) → C → C → Type 0
@@ -72,26 +72,26 @@ module _ {C : Type 0} {P Q : C → C → Type 0} (k : TwoOrders P Q) (f : C → 
         P-not-turned-Q = λ p q. k .P-not-Q p q;
       }
 
-module _ {C : Type 0} {P1 Q1 P2 Q2 : C → C → Type 0} {E : Type 0} (k1 : TwoOrders P1 Q1) (k2 : TwoOrders P2 Q2) (co : Compatible P1 Q1 P2 Q2 E) where
-  -- P1 or P2 has no loop of one or two
-  pub no-loop-of-two : {a b : C} → Either P1 P2 a b → Either P1 P2 b a → E
+module _ {C : Type 0} {Pa Qa Pb Qb : C → C → Type 0} {E : Type 0} (k1 : TwoOrders Pa Qa) (k2 : TwoOrders Pb Qb) (co : Compatible Pa Qa Pb Qb E) where
+  -- Pa or Pb has no loop of one or two
+  pub no-loop-of-two : {a b : C} → Either Pa Pb a b → Either Pa Pb b a → E
   no-loop-of-two (inl p) (inl q) = absurd (k1 .P-anti p q)
   no-loop-of-two (inl p) (inr q) = co .opposed-P p q
   no-loop-of-two (inr p) (inl q) = co .opposed-P q p
   no-loop-of-two (inr p) (inr q) = absurd (k2 .P-anti p q)
 
-  two-to-same : {a b c : C} → a ≡ c → Either P1 P2 a b → Either P1 P2 b c → E
-  two-to-same {a} {b} e p q = no-loop-of-two p (subst (λ (x : C). Either P1 P2 b x) (sym e) q)
+  two-to-same : {a b c : C} → a ≡ c → Either Pa Pb a b → Either Pa Pb b c → E
+  two-to-same {a} {b} e p q = no-loop-of-two p (subst (λ (x : C). Either Pa Pb b x) (sym e) q)
 
-  pub no-loop-of-one : {a b : C} → a ≡ b → Either P1 P2 a b → E
-  no-loop-of-one {a} e p = let q : Either P1 P2 a a = subst (λ (x : C). Either P1 P2 a x) (sym e) p in no-loop-of-two q q
+  pub no-loop-of-one : {a b : C} → a ≡ b → Either Pa Pb a b → E
+  no-loop-of-one {a} e p = let q : Either Pa Pb a a = subst (λ (x : C). Either Pa Pb a x) (sym e) p in no-loop-of-two q q
 
-  -- the one case that is left: b before a and d by Q1, and P2 a b, P1 b c, P2 c d
-  module _ (a b c d : C) (ab : P2 a b) (ba : Q1 b a) (bc : P1 b c) (cd : P2 c d) (bd : Q1 b d) where
+  -- the one case that is left: b before a and d by Qa, and Pb a b, Pa b c, Pb c d
+  module _ (a b c d : C) (ab : Pb a b) (ba : Qa b a) (bc : Pa b c) (cd : Pb c d) (bd : Qa b d) where
     Out : Type 0
-    Out = E ⊎ (Either P1 P2 a c ⊎ Either P1 P2 b d)
+    Out = E ⊎ (Either Pa Pb a c ⊎ Either Pa Pb b d)
 
-    by-b-c : Q2 c a → Q2 b d → Case P2 Q2 b c → Out
+    by-b-c : Qb c a → Qb b d → Case Pb Qb b c → Out
     unfolding Out
     by-b-c ca bd2 (same e) = inl (no-loop-of-one e (inl bc))
     by-b-c ca bd2 (P-ahead p) = inr (inl (inr (k2 .P-trans ab p)))
@@ -99,7 +99,7 @@ module _ {C : Type 0} {P1 Q1 P2 Q2 : C → C → Type 0} {E : Type 0} (k1 : TwoO
     by-b-c ca bd2 (Q-ahead q) = absurd (k2 .P-not-turned-Q ab (k2 .Q-trans q ca))
     by-b-c ca bd2 (Q-behind q) = absurd (k2 .P-not-Q cd (k2 .Q-trans q bd2))
 
-    by-a-c-again : Q1 c a → Q2 b d → Case P2 Q2 a c → Out
+    by-a-c-again : Qa c a → Qb b d → Case Pb Qb a c → Out
     unfolding Out
     by-a-c-again ca bd2 (same e) = inl (two-to-same e (inr ab) (inl bc))
     by-a-c-again ca bd2 (P-ahead p) = inr (inl (inr p))
@@ -107,7 +107,7 @@ module _ {C : Type 0} {P1 Q1 P2 Q2 : C → C → Type 0} {E : Type 0} (k1 : TwoO
     by-a-c-again ca bd2 (Q-ahead q) = inl (co .opposed-Q ca q)
     by-a-c-again ca bd2 (Q-behind q) = by-b-c q bd2 (k2 .cases b c)
 
-    by-a-c : Q2 b d → Case P1 Q1 a c → Out
+    by-a-c : Qb b d → Case Pa Qa a c → Out
     unfolding Out
     by-a-c bd2 (same e) = inl (two-to-same e (inr ab) (inl bc))
     by-a-c bd2 (P-ahead p) = inr (inl (inl p))
@@ -115,7 +115,7 @@ module _ {C : Type 0} {P1 Q1 P2 Q2 : C → C → Type 0} {E : Type 0} (k1 : TwoO
     by-a-c bd2 (Q-ahead q) = absurd (k1 .P-not-Q bc (k1 .Q-trans ba q))
     by-a-c bd2 (Q-behind q) = by-a-c-again q bd2 (k2 .cases a c)
 
-    by-b-d : Case P2 Q2 b d → Out
+    by-b-d : Case Pb Qb b d → Out
     unfolding Out
     by-b-d (same e) = inl (two-to-same e (inl bc) (inr cd))
     by-b-d (P-ahead p) = inr (inr (inr p))
@@ -124,7 +124,7 @@ module _ {C : Type 0} {P1 Q1 P2 Q2 : C → C → Type 0} {E : Type 0} (k1 : TwoO
     by-b-d (Q-behind q) = inl (co .opposed-Q bd q)
 
   -- a, b, c, d in a row with b first among a, b and d: b or c can be left out
-  pub four-points : (a b c d : C) → Either P1 P2 a b → Either P1 P2 b c → Either P1 P2 c d → First P1 Q1 b a → First P1 Q1 b d → E ⊎ (Either P1 P2 a c ⊎ Either P1 P2 b d)
+  pub four-points : (a b c d : C) → Either Pa Pb a b → Either Pa Pb b c → Either Pa Pb c d → First Pa Qa b a → First Pa Qa b d → E ⊎ (Either Pa Pb a c ⊎ Either Pa Pb b d)
   unfolding Out
   four-points a b c d (inl ab) bc cd (inl e) bd = inl (no-loop-of-one (sym e) (inl ab))
   four-points a b c d (inl ab) bc cd (inr (inl p)) bd = absurd (k1 .P-anti ab p)

@@ -63,9 +63,9 @@ module _ {C : Type 0} {P Q : C → C → Type 0} (k : TwoOrders P Q) where
       go r (Q-ahead q) = take r (inr q)
       go r (Q-behind q) = keep r (inr (inr q))
 
-module _ {C : Type 0} {P1 Q1 P2 Q2 : C → C → Type 0} {E : Type 0} (k1 : TwoOrders P1 Q1) (k2 : TwoOrders P2 Q2) (co : Compatible P1 Q1 P2 Q2 E) where
+module _ {C : Type 0} {Pa Qa Pb Qb : C → C → Type 0} {E : Type 0} (k1 : TwoOrders Pa Qa) (k2 : TwoOrders Pb Qb) (co : Compatible Pa Qa Pb Qb E) where
   -- b is first in the loop a, b, c, ..; without b or without c it is a shorter one
-  shorten : (a b c : C) (xs : List C) → Either P1 P2 a b → Either P1 P2 b c → Walk (Either P1 P2) c xs a → First P1 Q1 b a → All (First P1 Q1 b) xs → ((ys : List C) → length ys ≤ suc (length xs) → Walk (Either P1 P2) a ys a → E) → E
+  shorten : (a b c : C) (xs : List C) → Either Pa Pb a b → Either Pa Pb b c → Walk (Either Pa Pb) c xs a → First Pa Qa b a → All (First Pa Qa b) xs → ((ys : List C) → length ys ≤ suc (length xs) → Walk (Either Pa Pb) a ys a → E) → E
   shorten a b c [] ab bc ca ba h shorter =
       elim (four-points k1 k2 co a b c a ab bc ca ba ba) [
         | inl e ↦ e
@@ -80,24 +80,24 @@ module _ {C : Type 0} {P1 Q1 P2 Q2 : C → C → Type 0} {E : Type 0} (k1 : TwoO
       ]
 
   -- the loop from its first cell b, with the cell a before it
-  from-first : (n : ℕ) (a b : C) (zs : List C) → length zs ≤ n → Either P1 P2 a b → Walk (Either P1 P2) b zs a → First P1 Q1 b a → All (First P1 Q1 b) zs → ((u : C) (ys : List C) → length ys ≤ n → Walk (Either P1 P2) u ys u → E) → E
+  from-first : (n : ℕ) (a b : C) (zs : List C) → length zs ≤ n → Either Pa Pb a b → Walk (Either Pa Pb) b zs a → First Pa Qa b a → All (First Pa Qa b) zs → ((u : C) (ys : List C) → length ys ≤ n → Walk (Either Pa Pb) u ys u → E) → E
   from-first n a b [] s ab w ba h shorter = no-loop-of-two k1 k2 co ab w
   from-first n a b (c ∷ xs) s ab w ba h shorter =
       shorten a b c xs ab (w .0) (w .1) ba (h .1) (λ ys t. shorter a ys (omega arith))
 
-  at-first : (n : ℕ) (b : C) (ys : List C) → length ys ≤ suc n → Walk (Either P1 P2) b ys b → All (First P1 Q1 b) ys → ((u : C) (ys : List C) → length ys ≤ n → Walk (Either P1 P2) u ys u → E) → E
+  at-first : (n : ℕ) (b : C) (ys : List C) → length ys ≤ suc n → Walk (Either Pa Pb) b ys b → All (First Pa Qa b) ys → ((u : C) (ys : List C) → length ys ≤ n → Walk (Either Pa Pb) u ys u → E) → E
   at-first n b [] s w h shorter = no-loop-of-one k1 k2 co refl w
   at-first n b (y ∷ ys) s w h shorter =
-      let r = cut-last (Either P1 P2) (First P1 Q1 b) b y ys b w h in
+      let r = cut-last (Either Pa Pb) (First Pa Qa b) b y ys b w h in
       from-first n (r .last) b (r .way) (omega (arith, r .size)) (r .step) (r .to) (r .last-all) (r .way-all) shorter
 
-  no-round : (n : ℕ) (u : C) (xs : List C) → length xs ≤ n → Walk (Either P1 P2) u xs u → E
+  no-round : (n : ℕ) (u : C) (xs : List C) → length xs ≤ n → Walk (Either Pa Pb) u xs u → E
   no-round zero u [] s w = no-loop-of-one k1 k2 co refl w
   no-round zero u (x ∷ xs) s w = absurd (omega arith)
   no-round (suc n) u xs s w =
       let l = least k1 u xs in
-      let r = turn (Either P1 P2) (First P1 Q1 (l .cell)) u xs (l .cell) w (l .first) (l .within) in
+      let r = turn (Either Pa Pb) (First Pa Qa (l .cell)) u xs (l .cell) w (l .first) (l .within) in
       at-first n (l .cell) (r .rest) (omega (arith, r .size)) (r .round) (r .rest-all) (no-round n)
 
-  pub no-loop : (u : C) (xs : List C) → Walk (Either P1 P2) u xs u → E
+  pub no-loop : (u : C) (xs : List C) → Walk (Either Pa Pb) u xs u → E
   no-loop u xs w = no-round (length xs) u xs (omega arith) w

@@ -8,17 +8,13 @@ use native.Mathlib.Decide.{ℕ-discrete}
 use lib.ListN.{length, length-append}
 use Rattle.std.proofs.shelf.Tests.{cases-lt}
 use Rattle.placement.specs.Walks.{Path, Walk, Loop}
-use Rattle.placement.proofs.Listings.{below, entry-below}
+use Rattle.placement.proofs.Listings.{below, entry-below, length-below}
 use Rattle.placement.proofs.Paths.{walk-then-path}
 use Rattle.placement.proofs.Pigeonhole.{path-is-short}
 use Rattle.graph.specs.declared.graph.Graph.{Graph}
 use Rattle.graph.specs.Heaviest.{Short}
 use Rattle.graph.specs.Steps.{Step}
 use Rattle.graph.specs.Settling.{Reach}
-
-length-below : (n : ℕ) → length (below n) ≡ n
-length-below zero = refl
-length-below (suc n) = ap suc (length-below n)
 
 -- round a loop as often as wanted
 long-path : (g : Graph) (u : ℕ) (xs : List ℕ) → Walk (Step g) u xs u → (n : ℕ) → (us : List ℕ) × Path (Step g) u us × (n ≤ length us)

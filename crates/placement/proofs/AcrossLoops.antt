@@ -8,7 +8,7 @@ use Rattle.placement.specs.Walks.{Walk, Loop}
 use Rattle.placement.specs.Meaning.{Meaning, Free, Lawful}
 use Rattle.placement.specs.Across.{Node, cell, image, of-mate, of-free, Precedes, straight, mirrored}
 use Rattle.placement.specs.Theorems.{Unclean, Loop-across-forbids}
-use Rattle.placement.proofs.Orders.{left-not-self, left-trans}
+use Rattle.book.proofs.Orders.{left-not-self, left-trans}
 use Rattle.placement.proofs.Images.{first-is-node}
 use Rattle.placement.proofs.Walking.{walk-same}
 use Rattle.placement.proofs.FourPoints.{Either, exchange}

@@ -6,7 +6,7 @@ use native.Mathlib.Decide.{decLt}
 use Rattle.book.specs.Order.{LeftOf}
 use Rattle.placement.specs.Meaning.{Meaning, Free, Lawful}
 use Rattle.placement.specs.Across.{Node, cell, image, IsNode, Image, of-mate, of-free, Precedes, straight, mirrored}
-use Rattle.placement.proofs.Orders.{left?}
+use Rattle.book.proofs.Orders.{left?}
 use Rattle.placement.proofs.Mates.{mate-only, mate-not-free, grouped-or-free}
 use Rattle.placement.proofs.Images.{image-is-node}
 

@@ -8,7 +8,7 @@ use Rattle.std.proofs.shelf.Tests.{cases-eq}
 use Rattle.book.specs.Order.{LeftOf}
 use Rattle.placement.specs.Meaning.{Meaning, Mate, Free, Lawful}
 use Rattle.placement.specs.Rule.{RightMember, RoundsUp}
-use Rattle.placement.proofs.Orders.{left?}
+use Rattle.book.proofs.Orders.{left?}
 use Rattle.placement.proofs.Mates.{mate-only, mate-not-free, grouped-or-free}
 
 -- whether something decided holds of a number below n

@@ -8,7 +8,7 @@ use Rattle.length.specs.Kind.{Kind, Laws}
 use Rattle.placement.specs.Meaning.{Meaning, Cell, Mate, Free, Lawful}
 use Rattle.placement.specs.Couples.{Clean}
 use Rattle.placement.specs.Downward.{Under, Bottom, Depth}
-use Rattle.placement.proofs.Orders.{above?}
+use Rattle.book.proofs.Orders.{above?}
 use Rattle.placement.proofs.Mates.{mate-only, mate-not-free, grouped-or-free}
 use Rattle.placement.proofs.Listings.{cells, entry-cells}
 use Rattle.placement.proofs.FiniteJoins.{finite-join}

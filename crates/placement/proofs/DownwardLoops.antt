@@ -9,7 +9,7 @@ use Rattle.placement.specs.Walks.{Walk, Loop}
 use Rattle.placement.specs.Meaning.{Meaning, Cell, Free, Lawful}
 use Rattle.placement.specs.Downward.{Under}
 use Rattle.placement.specs.Theorems.{Unclean, Downward-loop-forbids}
-use Rattle.placement.proofs.Orders.{above-not-self, above-trans}
+use Rattle.book.proofs.Orders.{above-not-self, above-trans}
 use Rattle.placement.proofs.Walking.{walk-map, walk-join}
 use Rattle.placement.proofs.FourPoints.{Either}
 use Rattle.placement.proofs.NoLoop.{no-loop}

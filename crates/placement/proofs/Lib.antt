@@ -1,4 +1,3 @@
-pub mod Orders
 pub mod Entries
 pub mod Walking
 pub mod FourPoints

@@ -10,7 +10,7 @@ use Rattle.book.specs.declared.relation.Relation.{Relation}
 use Rattle.book.specs.declared.relation.Relation.the-variants.{Left, Right, Above, Below}
 use Rattle.book.specs.Order.{Apart, LeftOf, AboveOf, left, right, above, below, opposite, Laws, most-cells}
 use Rattle.placement.specs.Witnesses.{line}
-use Rattle.placement.proofs.Orders.{apart-turned}
+use Rattle.book.proofs.Orders.{apart-turned}
 
 module _ (s : Relation) (rank : ℕ → ℕ) (n : ℕ) where
   abbrev rel : ℕ → ℕ → Relation

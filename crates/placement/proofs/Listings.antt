@@ -18,7 +18,7 @@ pub entry-below : (n a : ℕ) → a < n → Entry a (below n)
 entry-below zero a h = absurd (omega arith)
 entry-below (suc n) a h = elim (cases-eq n a) [ inl e ↦ inl e | inr ne ↦ inr (entry-below n a (omega arith)) ]
 
-length-below : (n : ℕ) → length (below n) ≡ n
+pub length-below : (n : ℕ) → length (below n) ≡ n
 length-below zero = refl
 length-below (suc n) = ap suc (length-below n)
 

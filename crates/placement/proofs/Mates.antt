@@ -13,7 +13,7 @@ use Rattle.std.specs.declared.option.Option.the-variants.{Some, None}
 use Rattle.book.specs.Order.{LeftOf, AboveOf, Lie, left, right, above, below}
 use Rattle.placement.specs.Meaning.{Meaning, Cell, Mate, Free, Lawful}
 use Rattle.placement.specs.Theorems.{Unclean}
-use Rattle.placement.proofs.Orders.{left-not-above, left-not-below, left-turns-not, above-turns-not, left-trans, above-trans}
+use Rattle.book.proofs.Orders.{left-not-above, left-not-below, left-turns-not, above-turns-not, left-trans, above-trans}
 use Rattle.placement.proofs.FourPoints.{Case, same, P-ahead, P-behind, Q-ahead, Q-behind, TwoOrders, mirror}
 
 pub mate-only : {m : Meaning} {a b c : ℕ} → Mate m a b → Mate m a c → b ≡ c

@@ -7,7 +7,7 @@ use Rattle.book.specs.Order.{LeftOf, Lie, left, right, above, below}
 use Rattle.placement.specs.Meaning.{Meaning, Mate, Lawful}
 use Rattle.placement.specs.Couples.{Clean}
 use Rattle.placement.specs.Rule.{RoundsUp}
-use Rattle.placement.proofs.Orders.{left-turns-not, left-trans}
+use Rattle.book.proofs.Orders.{left-turns-not, left-trans}
 use Rattle.placement.proofs.Mates.{mate-only}
 
 pub rounds-up-rightward : {m : Meaning} {a b : ℕ} → Lawful m → LeftOf (m .order) a b → RoundsUp m a → RoundsUp m b

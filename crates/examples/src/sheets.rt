@@ -1,4 +1,5 @@
 //! Sheets by hand: worked placements, refused edits, and the limits of count and size.
+use book::Book;
 use book::Flipped;
 use book::FlippedBook;
 use book::MOST_CELLS;
@@ -258,6 +259,49 @@ fn three_processes() -> Result<(), Fail> {
     check_eq(x[0], each(0, 2, 0))?;
     check_eq(x[1], each(1, 0, 0))?;
     check_eq(y[0], each(2, 2, 2))
+}
+
+/// Two left edges and a width make up the span.
+fn mirror(left: u32, right: u32, width: u32, half_span: u32) -> Result<(), Fail> {
+    check_eq(
+        left as u64 + right as u64 + width as u64,
+        2 * half_span as u64,
+    )
+}
+
+/// Cells 0 and 1, side by side in this book of three, mirror each other in one number and in three.
+fn mirrors<B: Book + Drop>(book: B) -> Result<(), Fail> {
+    let mut sheet = Sheet::new(book);
+    sheet.pair(0, 1)?;
+    let (mut work, mut x, mut y) = ([Plain(9); 6], [Plain(9); 3], [Plain(9); 3]);
+    let plain = sheet.place(
+        &[Plain(4), Plain(4), Plain(3)],
+        &[Plain(5), Plain(5), Plain(2)],
+        &mut work,
+        &mut x,
+        &mut y,
+    )?;
+    mirror(x[0].0, x[1].0, 4, plain.half_span.0)?;
+    check_eq((plain.half_span.0, plain.depth.0), (6, 5))?;
+    let (mut work, mut x, mut y) = ([each(9, 9, 9); 6], [each(9, 9, 9); 3], [each(9, 9, 9); 3]);
+    let widths = [each(4, 6, 5), each(4, 6, 5), each(3, 2, 4)];
+    let heights = [each(1, 1, 1); 3];
+    let three = sheet.place(&widths, &heights, &mut work, &mut x, &mut y)?;
+    mirror(x[0].first, x[1].first, 4, three.half_span.first)?;
+    mirror(x[0].second, x[1].second, 6, three.half_span.second)?;
+    mirror(x[0].third, x[1].third, 5, three.half_span.third)?;
+    check_eq(three.half_span, each(6, 7, 7))
+}
+
+#[test]
+fn both_kinds_of_length_over_every_book() -> Result<(), Fail> {
+    let row = SequencePair::new(3, &[0, 2, 1], &[0, 2, 1])?;
+    let stack = SequencePair::new(3, &[0, 2, 1], &[1, 2, 0])?;
+    mirrors(row)?;
+    mirrors(Slicing::new(3, &[0, 2, 3, 1, 3])?)?;
+    mirrors(Flipped::new(row))?;
+    mirrors(Transposed::new(stack))?;
+    mirrors(Transposed::new(Flipped::new(stack)))
 }
 
 #[test]

@@ -1,10 +1,7 @@
 -- What a placing comes to, by the checks that it passed.
-use mathlib.Core.Path.{_≡_, refl, sym, ap, subst, _∙_}
+use mathlib.Core.Path.{_≡_, refl, sym, subst}
 use Prim.Native.Nat.{ℕ, _+_}
 use lib.ListN.{length}
-use Rattle.std.proofs.shelf.Results.{err-from-errBy}
-use Rattle.std.specs.Results.{ErrBy}
-use Rattle.std.specs.declared.result.Result.{Result}
 use Rattle.std.specs.declared.result.Result.the-variants.{Ok, Err}
 use Rattle.refusal.specs.declared.fault.SheetFault.{SheetFault}
 use Rattle.book.specs.Order.{Order, Laws}
@@ -45,9 +42,3 @@ module _ {V : Type 0} (k : Kind V) (o : Order) (g : Group) (counts : g .count �
         placement = places (sheet-of o g) lawful clean _ _ _ _ _ _ _ _ here given;
         best = best (sheet-of o g) lawful _ _ _ _ _ _ _ _ here given;
       })
-
--- the exit of a `?` hands on the callee's refusal
-pub exit-outcome : {V : Type 0} (k : Kind V) (m : Meaning) (l : Five V) (f : SheetFault) (r : Result (Extent V) SheetFault) → ErrBy r (λ y. y ≡ f) → Placing k m l l (Err f) → Placing k m l l r
-exit-outcome {V} k m l f r out so =
-    let p = err-from-errBy r out in
-    subst (Placing k m l l) (sym (p .1 ∙ ap (λ (x : SheetFault). Err x) (p .2))) so

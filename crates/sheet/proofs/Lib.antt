@@ -4,7 +4,6 @@ pub mod Restored
 pub mod TakenBack
 pub mod Released
 pub mod SwapChecks
-pub mod Exits
 pub mod Running
 pub mod Anew
 pub mod Telling

@@ -1,9 +1,10 @@
 -- Each refusal by its check; the placement by the theorems about the rule; and a clean sheet comes to no other end.
 use mathlib.Core.Path.{_≡_, refl, sym, subst, _∙_}
 use Prim.Native.Nat.{ℕ}
-use Rattle.placing.specs.Placing.{five, Fitting, Misfitting}
+use Rattle.book.proofs.Exits.{exit-at}
+use Rattle.placing.specs.Placing.{five, Fitting, Misfitting, Placing}
 use Rattle.placing.proofs.LawfulSheet.{lawful-sheet}
-use Rattle.placing.proofs.PlacingOutcomes.{misfitting-outcome, unlawful-outcome, placed-outcome, exit-outcome}
+use Rattle.placing.proofs.PlacingOutcomes.{misfitting-outcome, unlawful-outcome, placed-outcome}
 use Rattle.group.specs.Group.{sheet-of}
 use Rattle.placing.proofs.placed.place.Needs as need
 use Rattle.placing.proofs.placed.place.Needs.{then-count-n·in-rest, else-count-n}
@@ -15,7 +16,7 @@ returns-in-Break-check-lists g c counts clean =
     let group = c .args .group .now in
     let l = five (c .args .widths .now) (c .args .heights .now) (c .args .work .now) (c .args .x .now) (c .args .y .now) in
     let f = c .in-Break-check-lists .field-0 .0 in
-    exit-outcome k (sheet-of o group) l f (c .from-residual .result) (c .from-residual .ensures .1)
+    exit-at (Placing k (sheet-of o group) l l) (c .from-residual .result) f (c .from-residual .ensures .1)
     (misfitting-outcome k o group counts l f (subst (λ (n : ℕ). Misfitting n l f) (c .count-n .ensures) (c .in-Break-check-lists .ensures tt)))
 
 pub returns-in-Break-check-sizes : need.returns-in-Break-check-sizes
@@ -25,7 +26,7 @@ returns-in-Break-check-sizes g c counts clean =
     let group = c .args .group .now in
     let l = five (c .args .widths .now) (c .args .heights .now) (c .args .work .now) (c .args .x .now) (c .args .y .now) in
     let f = c .in-Break-check-sizes .field-0 .0 in
-    exit-outcome k (sheet-of o group) l f (c .from-residual-in-Break-check-sizes .result) (c .from-residual-in-Break-check-sizes .ensures .1)
+    exit-at (Placing k (sheet-of o group) l l) (c .from-residual-in-Break-check-sizes .result) f (c .from-residual-in-Break-check-sizes .ensures .1)
     (unlawful-outcome k o group counts l f (subst (λ (n : ℕ). Fitting n l) (c .count-n .ensures) (c .in-Continue-check-lists .ensures tt)) (c .in-Break-check-sizes .ensures tt))
 
 pub returns-in-Some : need.returns-in-Some

@@ -6,8 +6,8 @@ use Rattle.refusal.specs.declared.fault.SheetFault.{SheetFault}
 use Rattle.group.specs.Group.{mate-of}
 use Rattle.group.specs.Edits.{centred, centre-check}
 use Rattle.group.proofs.Checks.{centre-ok}
-use Rattle.sheet.specs.Edits.{centre}
-use Rattle.sheet.proofs.Exits.{exit-outcome}
+use Rattle.sheet.specs.Edits.{centre, Outcome}
+use Rattle.book.proofs.Exits.{exit-at}
 use Rattle.sheet.proofs.Outcomes.{unfit-outcome, done-outcome, unplaceable-outcome}
 use Rattle.sheet.proofs.Restored.{free-none, centred-freed, centred-grouped}
 use Rattle.sheet.proofs.Same.{order-refl}
@@ -23,7 +23,7 @@ returns-in-Break-centre g c =
     let new = c .centre .last .self in
     let f = c .in-Break-centre .field-0 .0 in
     let made = c .in-Break-centre .ensures tt in
-    exit-outcome o old (centre a) o new f (c .from-residual .result) (c .from-residual .ensures .1)
+    exit-at (Outcome o old (centre a) o new) (c .from-residual .result) f (c .from-residual .ensures .1)
     (unfit-outcome o old (centre a) o new f
     (λ h. sym (subst (λ (n : ℕ). _≡_ {A = Result (Unit {0}) SheetFault} (Err f) (centre-check n (mate-of old) a)) (h .counts) (made .answer)))
     (λ e. made .count ∙ e)

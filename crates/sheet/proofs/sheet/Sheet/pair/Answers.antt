@@ -6,8 +6,8 @@ use Rattle.refusal.specs.declared.fault.SheetFault.{SheetFault}
 use Rattle.group.specs.Group.{mate-of}
 use Rattle.group.specs.Edits.{paired, pair-check}
 use Rattle.group.proofs.Checks.{fine}
-use Rattle.sheet.specs.Edits.{pair}
-use Rattle.sheet.proofs.Exits.{exit-outcome}
+use Rattle.sheet.specs.Edits.{pair, Outcome}
+use Rattle.book.proofs.Exits.{exit-at}
 use Rattle.sheet.proofs.Outcomes.{unfit-outcome, done-outcome, unplaceable-outcome}
 use Rattle.sheet.proofs.Restored.{free-none, paired-freed, paired-grouped}
 use Rattle.sheet.proofs.Same.{order-refl}
@@ -24,7 +24,7 @@ returns-in-Break-pair g c =
     let new = c .pair .last .self in
     let f = c .in-Break-pair .field-0 .0 in
     let made = c .in-Break-pair .ensures tt in
-    exit-outcome o old (pair a b) o new f (c .from-residual .result) (c .from-residual .ensures .1)
+    exit-at (Outcome o old (pair a b) o new) (c .from-residual .result) f (c .from-residual .ensures .1)
     (unfit-outcome o old (pair a b) o new f
     (λ h. sym (subst (λ (n : ℕ). _≡_ {A = Result (Unit {0}) SheetFault} (Err f) (pair-check n (mate-of old) a b)) (h .counts) (made .answer)))
     (λ e. made .count ∙ e)

@@ -5,8 +5,8 @@ use Rattle.std.specs.declared.result.Result.the-variants.{Ok, Err}
 use Rattle.refusal.specs.declared.fault.SheetFault.{SheetFault}
 use Rattle.refusal.specs.declared.fault.SheetFault.the-variants.{SameCell}
 use Rattle.book.specs.Calls.{of-cells}
-use Rattle.sheet.specs.Edits.{swap}
-use Rattle.sheet.proofs.Exits.{exit-outcome}
+use Rattle.sheet.specs.Edits.{swap, Outcome}
+use Rattle.book.proofs.Exits.{exit-at}
 use Rattle.sheet.proofs.Outcomes.{untouched-outcome, done-outcome, unplaceable-outcome}
 use Rattle.sheet.proofs.SwapChecks.{outside, inside, same-cell, two-cells, swapped-back}
 use Rattle.sheet.proofs.sheet.Sheet.swap.Needs as need
@@ -18,7 +18,7 @@ returns-in-Break-within g c =
     let b = c .args .b in
     let o = g .B·Book .order (s .book) in
     let f = c .in-Break-within .field-0 .0 in
-    exit-outcome o (s .group) (swap a b) o (s .group) f (c .from-residual .result) (c .from-residual .ensures .1)
+    exit-at (Outcome o (s .group) (swap a b) o (s .group)) (c .from-residual .result) f (c .from-residual .ensures .1)
     (untouched-outcome o (s .group) (swap a b) f (λ _. outside (o .count) a b f _ (subst (λ (n : ℕ). _≡_ {A = Result (Unit {0}) SheetFault} (Err f) (of-cells n a b (Ok tt))) (c .count .ensures) (c .in-Break-within .ensures tt))))
 
 pub returns-then-a-b : need.returns-then-a-b

@@ -1,4 +1,6 @@
 //! Books: the relative order of cells, whatever it is written down as.
+#![tactic(auto)]
+
 mod asking;
 mod book;
 mod layers;

@@ -1,5 +1,7 @@
 //! Runs the jobs that are listed on standard input, a line each in hexadecimal, and prints what each comes to. Then it
 //! damages each of them in many ways and counts what the damaged files come to; and it prints what writing refuses.
+#![tactic(auto)]
+
 mod refusals;
 
 use crate::refusals::{print_jobs, print_placements};

@@ -1,4 +1,6 @@
 //! Worked cases as tests, in a crate of their own so that the libraries are not proved twice.
+#![tactic(auto)]
+
 #[cfg(test)]
 mod layers;
 #[cfg(test)]

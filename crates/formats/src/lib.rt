@@ -1,4 +1,6 @@
 //! What job files and placement files hold, and which fields are lawful.
+#![tactic(auto)]
+
 mod fields;
 mod job;
 mod placement;

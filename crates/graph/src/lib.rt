@@ -1,4 +1,6 @@
 //! Graphs of at most 128 nodes, and the heaviest paths in one without loops.
+#![tactic(auto)]
+
 mod graph;
 mod members;
 mod node_set;

@@ -1,4 +1,6 @@
 //! The symmetry group: which cells mirror each other about the axis, and whether their order lets them.
+#![tactic(auto)]
+
 mod couples;
 mod edits;
 mod table;

@@ -1,4 +1,6 @@
 //! From a job's bytes to its answer's: a placement file, or the file of a refusal.
+#![tactic(auto)]
+
 mod answering;
 mod steps;
 mod telling;

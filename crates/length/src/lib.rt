@@ -1,4 +1,6 @@
 // Kinds of length: what a length is, whatever numbers it is made of, and what follows for each kind from the laws alone.
+#![tactic(auto)]
+
 ghost use Rattle.std.specs.Prelude.{◌≡◌, ℕ, ◌+◌, ◌<◌, ◌≤◌, ◌⊎◌, List, [], ◌∷◌, length, take, Some, Decides, MatchOption};
 ghost use Rattle.length.specs.Kind.{Kind, Laws, Even, sum_limit};
 ghost use Rattle.length.specs.Kinds.{plain_kind, process_kind, plain_numbers, process_numbers, plain_text, process_text, Lawful, EachLawful};

@@ -1,4 +1,6 @@
 //! Numbers in files: groups of seven bits, lowest first, in shortest form.
+#![tactic(auto)]
+
 ghost use Rattle.std.specs.Prelude.{◌≡◌, ◌+◌, ◌<◌, ◌≤◌, length, IfOk};
 ghost use Rattle.numbers.specs.Number.{encode, unlawful};
 ghost use Rattle.numbers.specs.Calls.{number_at, Wrote};

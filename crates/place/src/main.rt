@@ -1,5 +1,7 @@
 //! Places a job: reads a job file from standard input, and writes its placement file, or the five numbers of the refusal, to
 //! standard output.
+#![tactic(auto)]
+
 ghost use Rattle.std.specs.Prelude.{◌≤◌, length, IfOk};
 
 use jobs::answer;

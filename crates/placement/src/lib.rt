@@ -1,4 +1,6 @@
 //! What a placement of a sheet is, and when there is one: meanings and theorems, no code that runs.
+#![tactic(auto)]
+
 ghost use Rattle.placement.specs.Theorems.{DownwardLoopForbids, LoopAcrossForbids, ForbiddenCoupleLoops, PathsAreShort, ValuesExist, ValuesUnique, RulePlaces, RuleIsBest, CellsLieApart, ForbiddenUnplaceable, CleanExactlyPlaceable};
 ghost use Rattle.placement.specs.Witnesses.{StackOfThreeLoops, RowOfFiveLoops};
 ghost use Rattle.placement.specs.PlacedRow.{OuterPairIsPlaced};

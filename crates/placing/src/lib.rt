@@ -1,4 +1,6 @@
 //! Placing: its checks, and the values of the placement rule, for any book, any group and any kind of length.
+#![tactic(auto)]
+
 mod across;
 mod downward;
 mod edges;

@@ -1,4 +1,6 @@
 //! Reading job files and placement files, straight from their bytes.
+#![tactic(auto)]
+
 mod error;
 mod fields;
 mod job;

@@ -1,4 +1,6 @@
 //! Sheets: a book and a symmetry group over its cells, with edits that never leave a sheet without a placement.
+#![tactic(auto)]
+
 mod edits;
 mod likeness;
 mod places;

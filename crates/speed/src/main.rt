@@ -2,6 +2,8 @@
 //!
 //! `speed SWAPS CELLS BOOK LENGTHS` has CELLS 8, 16, 32 or 64, BOOK `pair` (a sequence-pair) or `slicing`, and LENGTHS `one`
 //! or `three` (numbers a length). The same words give the same line, here and in any other program of the same rule.
+#![tactic(auto)]
+
 mod dice;
 mod start;
 mod tally;

@@ -1,4 +1,6 @@
 //! A tour of the libraries: one channel of a reader chip, from its order on.
+#![tactic(auto)]
+
 use book::{Book, Flipped, SequencePair, Slicing, Transposed};
 use length::{Length, PerProcess, Plain};
 use placing::Extent;

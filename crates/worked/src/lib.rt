@@ -1,5 +1,7 @@
 //! Worked cases: sheets with what calls on them come to, and numbers with their bytes, by the definitions that the
 //! contracts of the other crates use. One list and one theorem, no code that runs.
+#![tactic(auto)]
+
 ghost use Rattle.length.specs.Kind.{Laws};
 ghost use Rattle.worked.specs.Worked.{Worked};
 

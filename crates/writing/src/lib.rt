@@ -1,4 +1,6 @@
 //! Writing job files and placement files into bytes that the caller lends.
+#![tactic(auto)]
+
 mod checks;
 mod job;
 mod placement;

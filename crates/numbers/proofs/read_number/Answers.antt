@@ -25,11 +25,11 @@ sum_fits c =
     let t = lawful_last c.loop-i.i (get_or c.args.file.now (c.args.start + c.loop-i.i) 0) (sym c.if-misplaced.ensures) in
     bound_at c.loop-i.i c.loop-i.value c.from.result c.loop-i.scale c.loop-i.invariant.1 c.loop-i.invariant.0 c.loop-i.invariant.2 (omega arith) (λ z. omega (arith, t z))
 
-pub overflow-mul-result : goal.overflow-mul-result
-overflow-mul-result c = omega (arith, sum_fits c)
+pub overflow_mul-result : goal.overflow_mul-result
+overflow_mul-result c = omega (arith, sum_fits c)
 
-pub overflow-add-result : goal.overflow-add-result
-overflow-add-result c = omega (arith, sum_fits c)
+pub overflow_add-result : goal.overflow_add-result
+overflow_add-result c = omega (arith, sum_fits c)
 
 pub returns-then-byte-lt-MORE : goal.returns-then-byte-lt-MORE
 returns-then-byte-lt-MORE c =
@@ -43,17 +43,17 @@ returns-then-byte-lt-MORE c =
 more_facts : (c : goal.After-from-in-loop-i) → (c.loop-i.i < 4) × (c.loop-i.value + c.from-in-loop-i.result * c.loop-i.scale < c.loop-i.scale * 128) × (c.loop-i.scale * 128 < 2 ^ 32) × (c.loop-i.scale * 128 ≡ 128 ^ (c.loop-i.i + 1))
 more_facts c =
     let n = not_last c.loop-i.i (get_or c.args.file.now (c.args.start + c.loop-i.i) 0) (sym c.if-misplaced.ensures) c.if-byte-lt-MORE.false c.loop-i.invariant.0 in
-    let g = grows_at c.loop-i.i c.loop-i.value c.from-in-loop-i.result c.loop-i.scale c.loop-i.invariant.1 n c.loop-i.invariant.2 (omega (arith, c.type-inv.file (c.args.start + c.loop-i.i))) in
+    let g = grows_at c.loop-i.i c.loop-i.value c.from-in-loop-i.result c.loop-i.scale c.loop-i.invariant.1 n c.loop-i.invariant.2 (omega (arith, c.type_inv.file (c.args.start + c.loop-i.i))) in
     (n, g.0, g.1, g.2)
 
-pub overflow-mul-value : goal.overflow-mul-value
-overflow-mul-value c = omega (arith, more_facts c)
+pub overflow_mul-value : goal.overflow_mul-value
+overflow_mul-value c = omega (arith, more_facts c)
 
-pub overflow-add-value : goal.overflow-add-value
-overflow-add-value c = omega (arith, more_facts c)
+pub overflow_add-value : goal.overflow_add-value
+overflow_add-value c = omega (arith, more_facts c)
 
-pub overflow-mul-scale : goal.overflow-mul-scale
-overflow-mul-scale c = omega (arith, more_facts c)
+pub overflow_mul-scale : goal.overflow_mul-scale
+overflow_mul-scale c = omega (arith, more_facts c)
 
 pub loop-i-preserved : goal.loop-i-preserved
 loop-i-preserved c =

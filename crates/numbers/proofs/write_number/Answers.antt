@@ -15,5 +15,5 @@ bounds-out-place-2 c = omega (arith, c.loop-rest.invariant.1.ends, groups_some c
 pub returns : goal.returns
 returns c =
     let l = left_last c.args.out.now c.args.at c.args.v c.loop-rest.out c.loop-rest.place c.loop-rest.rest c.loop-rest.invariant.0 c.loop-rest-test.false c.loop-rest.invariant.1 in
-    let n = c.number-size-size.ensures.long in
-    record { wrote = record { fits = λ _. l; overflows = λ h. absurd (omega arith) }; size = n; few = c.number-size-size.ensures.few }
+    let n = c.number_size-size.ensures.long in
+    record { wrote = record { fits = λ _. l; overflows = λ h. absurd (omega arith) }; size = n; few = c.number_size-size.ensures.few }

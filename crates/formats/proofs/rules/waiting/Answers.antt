@@ -14,7 +14,7 @@ loop-number-preserved c =
     let here = c.loop-number.invariant.0 ∙ ap (waiting n parts) (from_index xs i 0 c.loop-number-test.true) in
     elim c.if-number-n.branch [
       | then-number-n w ↦ (here ∙ waiting_cell n parts (get_or xs i 0) (drop (i + 1) xs) w.if-number-n.true ∙ ap (λ (p : ℕ). waiting n p (drop (i + 1) xs)) (sym w.parts-is), omega (arith, w.parts-is))
-      | else-number-n w ↦ (let fewer : c.if-number-n.parts ≡ parts - 1 = omega (arith, w.parts-is, w.saturating-sub-parts.ensures) in here ∙ waiting_join n parts (get_or xs i 0) (drop (i + 1) xs) w.if-number-n.false ∙ ap (λ (p : ℕ). waiting n p (drop (i + 1) xs)) (sym fewer), omega (arith, w.parts-is, w.saturating-sub-parts.ensures))
+      | else-number-n w ↦ (let fewer : c.if-number-n.parts ≡ parts - 1 = omega (arith, w.parts-is, w.saturating_sub-parts.ensures) in here ∙ waiting_join n parts (get_or xs i 0) (drop (i + 1) xs) w.if-number-n.false ∙ ap (λ (p : ℕ). waiting n p (drop (i + 1) xs)) (sym fewer), omega (arith, w.parts-is, w.saturating_sub-parts.ensures))
     ]
 
 pub returns : goal.returns

@@ -60,8 +60,8 @@ bounds-out-u g t c =
     let low = taken_inside c.args.graph.now c.args.v c.in-Some.u c.loop-u.invariant.steps c.in-Some.ensures in
     omega (arith, low, c.settle.auto.out, c.loop-u.auto.out, c.requires.long)
 
-pub offset-bounds-out-u : goal.offset-bounds-out-u
-offset-bounds-out-u g t c =
+pub offset_bounds-out-u : goal.offset_bounds-out-u
+offset_bounds-out-u g t c =
     let low = taken_inside c.args.graph.now c.args.v c.in-Some.u c.loop-u.invariant.steps c.in-Some.ensures in
     let inside : c.in-Some.u < length c.args.out.now = omega (arith, low, c.requires.long) in
     search rules
@@ -69,11 +69,11 @@ offset-bounds-out-u g t c =
 pub bounds-weights-u : goal.bounds-weights-u
 bounds-weights-u g t c = mod-lt c.in-Some.u c.requires.weighted
 
-pub offset-bounds-weights-u : goal.offset-bounds-weights-u
-offset-bounds-weights-u g t c = omega (arith, mod-lt c.in-Some.u c.requires.weighted)
+pub offset_bounds-weights-u : goal.offset_bounds-weights-u
+offset_bounds-weights-u g t c = omega (arith, mod-lt c.in-Some.u c.requires.weighted)
 
-pub returns-in-default-plus : goal.returns-in-default-plus
-returns-in-default-plus g t c =
+pub returns-in_default-plus : goal.returns-in_default-plus
+returns-in_default-plus g t c =
     let k = g.T.Length.kind in
     let graph = c.args.graph.now in
     let out = c.settle.new.out in
@@ -94,7 +94,7 @@ returns-in-default-plus g t c =
           let light = (settled.after u (settled.reached c.if-not-settle.false)).light small (n - 1) next.1 in
           let fits : k.measure (get_or out u k.zero) + k.measure (dealt k.zero weights u) ≤ sum_limit = plus_answers g.met.T.Length.laws (n - 1) _ _ (omega (arith, c.requires.few)) light (small u low) in
           let same : k.measure c.index-out-u.result + k.measure c.index-weights-u.result ≡ k.measure (get_or out u k.zero) + k.measure (dealt k.zero weights u) = ap₂ (λ x y. k.measure x + k.measure y) here weight in
-          absurd (omega (arith, c.in-default-plus.ensures));
+          absurd (omega (arith, c.in_default-plus.ensures));
     }
 
 pub loop-u-preserved : goal.loop-u-preserved
@@ -114,8 +114,8 @@ loop-u-preserved g t c =
     let weighs = get_or_read weights (u % length weights) c.index-weights-u.result (mod-lt u c.requires.weighted) c.index-weights-u.is k.zero in
     let settled = c.settle.ensures in
     let joined = c.join-most.ensures ∙ ap (k.join c.loop-u.most) (c.in-Some-plus.ensures.1 ∙ ap₂ k.plus here weighs) in
-    subst (λ x. Underway k graph weight v c.args.done.now c.take-first.new.self c.settle.new.done now x) (sym joined)
-    (underway_more g.met.T.Length.laws graph weight v u c.args.done.now c.loop-u.left c.take-first.new.self c.loop-u.done c.settle.new.done (λ (x : ℕ). get_or c.loop-u.out x k.zero) now c.loop-u.most way taken settled.grows settled.after (settled.reached c.if-not-settle.false))
+    subst (λ x. Underway k graph weight v c.args.done.now c.take_first.new.self c.settle.new.done now x) (sym joined)
+    (underway_more g.met.T.Length.laws graph weight v u c.args.done.now c.loop-u.left c.take_first.new.self c.loop-u.done c.settle.new.done (λ (x : ℕ). get_or c.loop-u.out x k.zero) now c.loop-u.most way taken settled.grows settled.after (settled.reached c.if-not-settle.false))
 
 pub returns : goal.returns
 returns g t c =
@@ -126,7 +126,7 @@ returns g t c =
     let v = c.args.v in
     let way = c.loop-u.invariant in
     let inside : v < length c.loop-u.out = omega (arith, c.requires.inside, c.requires.long, c.loop-u.auto.out) in
-    let known = begun_all laws graph weight v c.loop-u.left c.loop-u.most c.in-default.ensures.nothing way.begun in
+    let known = begun_all laws graph weight v c.loop-u.left c.loop-u.most c.in_default.ensures.nothing way.begun in
     record {
       grows = λ u h. c.insert.ensures.kept u (way.grown u h);
       after = settled_more laws graph weight c.loop-u.done c.insert.new.self c.loop-u.out v c.loop-u.most inside c.insert.ensures known way.settled;

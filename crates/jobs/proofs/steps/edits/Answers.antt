@@ -13,8 +13,8 @@ loop-asked-preserved g c =
     let es = c.args.entries.now in
     let i = c.loop-asked.asked-index in
     let e = get_or es i nobody in
-    c.in-ok-push.ensures.items
-    ∙ ap (λ (s : Step g.row.T.Denot). vec_items c.loop-asked.steps ++ (s ∷ [])) c.entry-step.ensures
+    c.in_ok-push.ensures.items
+    ∙ ap (λ (s : Step g.row.T.Denot). vec_items c.loop-asked.steps ++ (s ∷ [])) c.entry_step.ensures
     ∙ ap (λ (xs : List (Step g.row.T.Denot)). xs ++ (step_of_entry e ∷ [])) c.loop-asked.invariant
     ∙ sym (map-append step_of_entry (take i es) (e ∷ []))
     ∙ ap (map step_of_entry) (sym (take_more es i nobody c.loop-asked-test.true))

@@ -8,4 +8,4 @@ use Rattle.jobs.proofs.telling.entry_place.Goals as goal
 pub returns : goal.returns
 returns g c =
     let j = job_fields g.T.Length.numbers c.args.job.now in
-    c.unwrap-or.ensures ∙ value_of c.entry-offset.result (job_check j) (entry_place j c.args.entry) c.requires.lawful c.entry-offset.ensures
+    c.unwrap_or.ensures ∙ value_of c.entry_offset.result (job_check j) (entry_place j c.args.entry) c.requires.lawful c.entry_offset.ensures

@@ -10,7 +10,7 @@ loop-number-preserved c =
     let i = c.loop-number.number-index in
     let v = get_or ns i 0 in
     let one : encode_all (v ∷ []) ≡ encode v = append-nil (encode v) in
-    c.in-ok-push-number.ensures
+    c.in_ok-push_number.ensures
     ∙ ap (λ (bs : List ℕ). bs ++ encode v) c.loop-number.invariant
     ∙ ap (λ (bs : List ℕ). encode_all (take i ns) ++ bs) (sym one)
     ∙ sym (encode_all_append (take i ns) (v ∷ []))

@@ -7,8 +7,8 @@ use Rattle.jobs.specs.Answers.{placement_said}
 use Rattle.jobs.proofs.Lawful.{job_checked, job_processes, long_list, placement_lawful, copied, either_long, map_either}
 use Rattle.jobs.proofs.telling.placed_file.Goals as goal
 
-pub placement-file-requires : goal.placement-file-requires
-placement-file-requires g c =
+pub placement_file-requires : goal.placement_file-requires
+placement_file-requires g c =
     let numbers = g.T.Length.numbers in
     let listed = g.met.T.Length.listed in
     let job = c.args.job.now in
@@ -18,8 +18,8 @@ placement-file-requires g c =
     let placed = c.args.placed.now in
     let checked = job_checked j c.requires.lawful in
     let k = job_processes numbers g.T.Length.count listed job c.requires.lawful in
-    let x = copied c.in-ok-x.ensures c.either.ensures c.deref.ensures.value c.deref-2.ensures.value c.exchanges-turned.ensures in
-    let y = copied c.in-ok-y.ensures c.either-2.ensures c.deref-3.ensures.value c.deref-4.ensures.value c.exchanges-turned.ensures in
+    let x = copied c.in_ok-x.ensures c.either.ensures c.deref.ensures.value c.deref-2.ensures.value c.exchanges-turned.ensures in
+    let y = copied c.in_ok-y.ensures c.either-2.ensures c.deref-3.ensures.value c.deref-4.ensures.value c.exchanges-turned.ensures in
     let x-long = ap length x ∙ either_long t (vec_items placed.y) (vec_items placed.x) n c.requires.filled.y_length c.requires.filled.x_length in
     let y-long = ap length y ∙ either_long t (vec_items placed.x) (vec_items placed.y) n c.requires.filled.x_length c.requires.filled.y_length in
     placement_lawful (record {
@@ -27,11 +27,11 @@ placement-file-requires g c =
       processes = job.processes;
       half_span = numbers placed.extent.half_span;
       depth = numbers placed.extent.depth;
-      x = map numbers (vec_items c.in-ok-x.x);
-      y = map numbers (vec_items c.in-ok-y.y);
+      x = map numbers (vec_items c.in_ok-x.x);
+      y = map numbers (vec_items c.in_ok-y.y);
     }) checked.is_counted checked.is_processed
-    (long_list numbers g.T.Length.count listed n job.processes k (vec_items c.in-ok-x.x) x-long)
-    (long_list numbers g.T.Length.count listed n job.processes k (vec_items c.in-ok-y.y) y-long)
+    (long_list numbers g.T.Length.count listed n job.processes k (vec_items c.in_ok-x.x) x-long)
+    (long_list numbers g.T.Length.count listed n job.processes k (vec_items c.in_ok-y.y) y-long)
 
 pub returns : goal.returns
 returns g c =
@@ -40,8 +40,8 @@ returns g c =
     let job = c.args.job.now in
     let t = exchanges job.turn in
     let placed = c.args.placed.now in
-    let x = ap (map numbers) (copied c.in-ok-x.ensures c.either.ensures c.deref.ensures.value c.deref-2.ensures.value c.exchanges-turned.ensures) ∙ map_either numbers t (vec_items placed.y) (vec_items placed.x) in
-    let y = ap (map numbers) (copied c.in-ok-y.ensures c.either-2.ensures c.deref-3.ensures.value c.deref-4.ensures.value c.exchanges-turned.ensures) ∙ map_either numbers t (vec_items placed.x) (vec_items placed.y) in
+    let x = ap (map numbers) (copied c.in_ok-x.ensures c.either.ensures c.deref.ensures.value c.deref-2.ensures.value c.exchanges-turned.ensures) ∙ map_either numbers t (vec_items placed.y) (vec_items placed.x) in
+    let y = ap (map numbers) (copied c.in_ok-y.ensures c.either-2.ensures c.deref-3.ensures.value c.deref-4.ensures.value c.exchanges-turned.ensures) ∙ map_either numbers t (vec_items placed.x) (vec_items placed.y) in
     let with-edges : List (List ℕ) → List (List ℕ) → PlacementFields = λ xs ys. record {
       count = job.count;
       processes = job.processes;
@@ -50,5 +50,5 @@ returns g c =
       x = xs;
       y = ys;
     } in
-    let same = ap (λ (xs : List (List ℕ)). placement_bytes (with-edges xs (map numbers (vec_items c.in-ok-y.y)))) x ∙ ap (λ (ys : List (List ℕ)). placement_bytes (with-edges (cond t (map numbers (vec_items placed.y)) (map numbers (vec_items placed.x))) ys)) y in
-    IfOk-weaker c.placement-file.result _ _ (λ v e. e ∙ same) c.placement-file.ensures
+    let same = ap (λ (xs : List (List ℕ)). placement_bytes (with-edges xs (map numbers (vec_items c.in_ok-y.y)))) x ∙ ap (λ (ys : List (List ℕ)). placement_bytes (with-edges (cond t (map numbers (vec_items placed.y)) (map numbers (vec_items placed.x))) ys)) y in
+    IfOk-weaker c.placement_file.result _ _ (λ v e. e ∙ same) c.placement_file.ensures

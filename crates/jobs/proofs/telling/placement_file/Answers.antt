@@ -9,6 +9,6 @@ use Rattle.jobs.proofs.telling.placement_file.Goals as goal
 pub returns : goal.returns
 returns g c =
     let p = placement_fields g.T.Length.numbers c.args.placement.now in
-    let size = c.unwrap-or-size.ensures ∙ value_of c.placement-size.result (placement_check p) (length (placement_bytes p)) c.requires c.placement-size.ensures in
-    with_items_is c.in-ok-bytes.bytes c.write-placement.new.out (omega (arith, c.write-placement.auto.out, c.deref-mut.ensures.len))
-    ∙ written_whole c.requires (ap length c.deref-mut.ensures.value ∙ c.in-ok-bytes.ensures ∙ size) c.write-placement.ensures
+    let size = c.unwrap_or-size.ensures ∙ value_of c.placement_size.result (placement_check p) (length (placement_bytes p)) c.requires c.placement_size.ensures in
+    with_items_is c.in_ok-bytes.bytes c.write_placement.new.out (omega (arith, c.write_placement.auto.out, c.deref_mut.ensures.len))
+    ∙ written_whole c.requires (ap length c.deref_mut.ensures.value ∙ c.in_ok-bytes.ensures ∙ size) c.write_placement.ensures

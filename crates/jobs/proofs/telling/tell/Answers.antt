@@ -13,13 +13,13 @@ returns-in-Refused g c =
     let j = job_fields numbers c.args.job.now in
     let f = c.in-Refused.fault in
     let is =
-    ap refusal_bytes (c.refusal-at.ensures.told ∙ ap (λ (at : ℕ). sheetTold at f) c.fault-place-offset.ensures)
+    ap refusal_bytes (c.refusal_at.ensures.told ∙ ap (λ (at : ℕ). sheetTold at f) c.fault_place-offset.ensures)
     ∙ sym (told_refused numbers j c.args.job.now.count c.loop-step.step c.args.answers.now c.index-answers-step.result c.loop-step-test.true c.index-answers-step.is f c.in-Refused.is)
     ∙ sym c.loop-step.invariant.0 in
-    IfOk-weaker c.refusal-file.result _ _ (λ v e. e ∙ is) c.refusal-file.ensures
+    IfOk-weaker c.refusal_file.result _ _ (λ v e. e ∙ is) c.refusal_file.ensures
 
-pub placed-file-requires : goal.placed-file-requires
-placed-file-requires g c = record {
+pub placed_file-requires : goal.placed_file-requires
+placed_file-requires g c = record {
   lawful = c.requires.lawful;
   filled = filled_placed g.T.Length.numbers (job_fields g.T.Length.numbers c.args.job.now) c.args.job.now.count c.loop-step.step c.args.answers.now c.index-answers-step.result c.loop-step-test.true c.index-answers-step.is c.in-Placed.placed c.in-Placed.is c.loop-step.invariant.1;
 }
@@ -29,7 +29,7 @@ returns-in-Placed g c =
     let numbers = g.T.Length.numbers in
     let j = job_fields numbers c.args.job.now in
     let is = sym (told_placed numbers j c.args.job.now.count c.loop-step.step c.args.answers.now c.index-answers-step.result c.loop-step-test.true c.index-answers-step.is c.in-Placed.placed c.in-Placed.is) ∙ sym c.loop-step.invariant.0 in
-    IfOk-weaker c.placed-file.result _ _ (λ v e. e ∙ is) c.placed-file.ensures
+    IfOk-weaker c.placed_file.result _ _ (λ v e. e ∙ is) c.placed_file.ensures
 
 pub loop-step-preserved : goal.loop-step-preserved
 loop-step-preserved g c =

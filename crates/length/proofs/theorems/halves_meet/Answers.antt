@@ -8,8 +8,8 @@ pub returns : goal.returns
 returns g c =
     let k = g.T.Length.kind in
     let laws = g.met.T.Length.laws in
-    let low = ap k.measure c.lower-half.ensures in
-    let up = ap k.measure c.upper-half.ensures in
+    let low = ap k.measure c.lower_half.ensures in
+    let up = ap k.measure c.upper_half.ensures in
     record {
       theorem = halves_meet_lem laws;
       value = cases_map c.plus.result

@@ -7,8 +7,8 @@ use Rattle.placing.proofs.LentBack.{front_stays, back_mirrors}
 use Rattle.placing.proofs.WorkList.{given_across, small_befores}
 use Rattle.placing.proofs.across.chains.Goals as goal
 
-pub returns-in-err-longest : goal.returns-in-err-longest
-returns-in-err-longest g c = rw c.from-residual.ensures (record { found = tt; finishes = λ clean sizes. c.in-err-longest.ensures.finishes clean sizes })
+pub returns-in_err-longest : goal.returns-in_err-longest
+returns-in_err-longest g c = rw c.from_residual.ensures (record { found = tt; finishes = λ clean sizes. c.in_err-longest.ensures.finishes clean sizes })
 
 pub returns : goal.returns
 returns g c =
@@ -19,25 +19,25 @@ returns g c =
     let m = sheet_of o group in
     let lawful = lawful_sheet o group (g.met.B.Book.lawful c.args.book.now) c.requires.counts in
     let w : ℕ → V = λ a. get_or c.args.widths.now a k.zero in
-    let values = c.node-values.new.values in
+    let values = c.node_values.new.values in
     let value : ℕ → V = λ u. get_or values u k.zero in
     let n = c.count-n.result in
-    let images = c.mirror-images.new.images in
+    let images = c.mirror_images.new.images in
     let list = put_mid n (length values - n) values images in
     let work : ℕ → V = λ u. get_or list u k.zero in
     let count = c.count-n.ensures in
-    let within : n ≤ length values = omega (arith, c.node-values.auto.values, c.requires.work) in
+    let within : n ≤ length values = omega (arith, c.node_values.auto.values, c.requires.work) in
     let befores : (a : ℕ) → a < o.count → work a ≡ value a = λ a here. front_stays n values images within a k.zero (omega arith) in
     let afters : (a : ℕ) → a < o.count → work (o.count + a) ≡ value (image_of o.count a (mate_of group a)) =
     λ a here.
     subst (λ (i : ℕ). work (i + a) ≡ value (image_of i a (mate_of group a))) count
-    (back_mirrors n values c.copy-from-slice.new.self images within k.zero (mate_of group)
+    (back_mirrors n values c.copy_from_slice.new.self images within k.zero (mate_of group)
     (λ b d told. let cell = mate_inside group b d told in omega (arith, c.requires.counts))
-    c.copy-from-slice.ensures.after
-    (λ b low. c.mirror-images.ensures b (omega (arith, c.requires.counts)))
+    c.copy_from_slice.ensures.after
+    (λ b low. c.mirror_images.ensures b (omega (arith, c.requires.counts)))
     a (omega arith))
     in
     record {
-      found = given_across {m = m} k value work c.in-ok-longest.longest befores lawful w afters c.in-ok-longest.ensures.found;
-      finishes = λ clean sizes. small_befores {m = m} k value work c.in-ok-longest.longest befores (c.in-ok-longest.ensures.finishes clean sizes);
+      found = given_across {m = m} k value work c.in_ok-longest.longest befores lawful w afters c.in_ok-longest.ensures.found;
+      finishes = λ clean sizes. small_befores {m = m} k value work c.in_ok-longest.longest befores (c.in_ok-longest.ensures.finishes clean sizes);
     }

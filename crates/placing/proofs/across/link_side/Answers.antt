@@ -4,8 +4,8 @@ use Rattle.placing.proofs.across.link_side.Goals as goal
 
 pub returns : goal.returns
 returns c =
-    let from = c.image-number.ensures in
-    let to = c.image-number-2.ensures in
+    let from = c.image_number.ensures in
+    let to = c.image_number-2.ensures in
     let nodes = c.requires.nodes in
     let same = c.link.ensures.count in
     adds_like

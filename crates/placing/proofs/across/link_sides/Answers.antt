@@ -5,14 +5,14 @@ use Rattle.placing.specs.Adding.{Adds}
 use Rattle.placing.proofs.Adding.{adds_none, adds_more, adds_like, adds_nothing, below_all}
 use Rattle.placing.proofs.AcrossGraph.{SideTo, sides_by_all, SideOver}
 use Rattle.placing.proofs.across.link_sides.Goals as goal
-use Rattle.placing.proofs.across.link_sides.Goals.{then-is-left, else-is-left}
+use Rattle.placing.proofs.across.link_sides.Goals.{then-is_left, else-is_left}
 
 pub loop-b-init : goal.loop-b-init
 loop-b-init g c = adds_none c.args.graph.now (SideTo (sheet_of (g.B.Book.order c.args.book.now) c.args.group.now) c.args.a)
 
-pub link-side-requires : goal.link-side-requires
-link-side-requires g c =
-    let left = c.is-left.ensures.0 c.if-is-left.true in
+pub link_side-requires : goal.link_side-requires
+link_side-requires g c =
+    let left = c.is_left.ensures.0 c.if-is_left.true in
     record {
       nodes = omega (arith, c.loop-b.invariant.count, c.requires.nodes, c.requires.counts);
       cells = (omega (arith, left.apart.a_in, c.requires.counts), omega (arith, left.apart.b_in, c.requires.counts));
@@ -25,13 +25,13 @@ loop-b-preserved g c =
     let a = c.args.a in
     let b = c.loop-b.b in
     let S = SideTo (sheet_of o group) a in
-    elim c.if-is-left.branch [
-      | then-is-left w ↦
-          let left = c.is-left.ensures.0 w.if-is-left.true in
-          let linked = subst (λ (n : ℕ). Adds c.loop-b.graph w.link-side.new.graph (SideOver n (mate_of group) a b)) c.requires.counts w.link-side.ensures in
+    elim c.if-is_left.branch [
+      | then-is_left w ↦
+          let left = c.is_left.ensures.0 w.if-is_left.true in
+          let linked = subst (λ (n : ℕ). Adds c.loop-b.graph w.link_side.new.graph (SideOver n (mate_of group) a b)) c.requires.counts w.link_side.ensures in
           rw w.graph-is (adds_more S b c.loop-b.invariant (adds_like (λ x y s. (left, s)) (λ x y s. s.1) linked))
-      | else-is-left w ↦
-          let not = not_from_Decides c.is-left.result c.is-left.ensures w.if-is-left.false in
+      | else-is_left w ↦
+          let not = not_from_Decides c.is_left.result c.is_left.ensures w.if-is_left.false in
           rw w.graph-is (adds_more S b c.loop-b.invariant (adds_nothing (λ x y s. not s.0)))
     ]
 

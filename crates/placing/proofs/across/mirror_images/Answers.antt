@@ -5,10 +5,10 @@ use Rattle.placing.specs.Codes.{mirrored}
 use Rattle.placing.proofs.LawfulSheet.{mate_inside}
 use Rattle.placing.proofs.Filling.{filled_more}
 use Rattle.placing.proofs.across.mirror_images.Goals as goal
-use Rattle.placing.proofs.across.mirror_images.Goals.{in-Some, in-default}
+use Rattle.placing.proofs.across.mirror_images.Goals.{in-Some, in_default}
 
-pub offset-bounds-values-mate : goal.offset-bounds-values-mate
-offset-bounds-values-mate g c = let inside = mate_inside c.args.group.now c.loop-a.a c.in-Some.mate (sym c.in-Some.ensures) in omega (arith, c.requires.values)
+pub offset_bounds-values-mate : goal.offset_bounds-values-mate
+offset_bounds-values-mate g c = let inside = mate_inside c.args.group.now c.loop-a.a c.in-Some.mate (sym c.in-Some.ensures) in omega (arith, c.requires.values)
 
 pub bounds-values-mate : goal.bounds-values-mate
 bounds-values-mate g c = let inside = mate_inside c.args.group.now c.loop-a.a c.in-Some.mate (sym c.in-Some.ensures) in omega (arith, c.requires.values)
@@ -35,8 +35,8 @@ loop-a-preserved g c =
             filled_more P images a w.index-values-mate.result zero (omega (arith, c.requires.images, c.loop-a.auto.images)) c.loop-a.invariant.0 here,
             λ b past. let ne : b ≡ a → ⊥ = λ e. omega arith in get_or-set_other images a b w.index-values-mate.result zero ne ∙ c.loop-a.invariant.1 b (omega arith),
           )
-      | in-default w ↦
-          let told : mate_of group a ≡ None = sym w.in-default.ensures in
+      | in_default w ↦
+          let told : mate_of group a ≡ None = sym w.in_default.ensures in
           let here : P a (get_or images a zero) = c.loop-a.invariant.1 a (omega arith) ∙ sym (ap (mirrored (get_or before a zero) value) told) in
           rw w.images-is (
             below_more (λ (b : ℕ). P b (get_or images b zero)) a c.loop-a.invariant.0 here,

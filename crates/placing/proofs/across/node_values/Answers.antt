@@ -11,11 +11,11 @@ use Rattle.placing.proofs.across.node_values.Goals as goal
 pub reach-requires : goal.reach-requires
 reach-requires g c = record {
   weighted = omega (arith, c.requires.widths, (g.met.B.Book.lawful c.args.book.now).some);
-  long = c.requires.values ∙ sym c.in-ok-graph.ensures.count;
+  long = c.requires.values ∙ sym c.in_ok-graph.ensures.count;
 }
 
-pub returns-in-err-graph : goal.returns-in-err-graph
-returns-in-err-graph g c = rw c.from-residual.ensures (record { found = tt; finishes = λ clean sizes. c.in-err-graph.ensures })
+pub returns-in_err-graph : goal.returns-in_err-graph
+returns-in_err-graph g c = rw c.from_residual.ensures (record { found = tt; finishes = λ clean sizes. c.in_err-graph.ensures })
 
 pub returns : goal.returns
 returns g c =
@@ -24,7 +24,7 @@ returns g c =
     let laws = g.met.T.Length.laws in
     let o = g.B.Book.order c.args.book.now in
     let lawful = lawful_sheet o c.args.group.now (g.met.B.Book.lawful c.args.book.now) c.requires.counts in
-    let sides = c.in-ok-graph.ensures in
+    let sides = c.in_ok-graph.ensures in
     let widths = c.args.widths.now in
     let w : ℕ → V = λ a. get_or widths a k.zero in
     let weight : ℕ → V = dealt k.zero widths in

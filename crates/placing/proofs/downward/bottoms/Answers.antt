@@ -9,11 +9,11 @@ use Rattle.placing.proofs.downward.bottoms.Goals as goal
 pub reach-requires : goal.reach-requires
 reach-requires g c = record {
   weighted = omega (arith, c.requires.heights, (g.met.B.Book.lawful c.args.book.now).some);
-  long = c.requires.y ∙ sym c.in-ok-graph.ensures.count;
+  long = c.requires.y ∙ sym c.in_ok-graph.ensures.count;
 }
 
-pub returns-in-err-graph : goal.returns-in-err-graph
-returns-in-err-graph g c = rw c.from-residual.ensures (λ clean sizes. c.in-err-graph.ensures)
+pub returns-in_err-graph : goal.returns-in_err-graph
+returns-in_err-graph g c = rw c.from_residual.ensures (λ clean sizes. c.in_err-graph.ensures)
 
 pub returns : goal.returns
 returns g c =
@@ -22,13 +22,13 @@ returns g c =
     let laws = g.met.T.Length.laws in
     let o = g.B.Book.order c.args.book.now in
     let lawful = lawful_sheet o c.args.group.now (g.met.B.Book.lawful c.args.book.now) c.requires.counts in
-    let falls = c.in-ok-graph.ensures in
+    let falls = c.in_ok-graph.ensures in
     let heights = c.args.heights.now in
     let h : ℕ → V = λ a. get_or heights a k.zero in
     let weight : ℕ → V = dealt k.zero heights in
     let weighs : (a : ℕ) → a < o.count → weight a ≡ h a = dealt_first k.zero heights o.count c.requires.heights in
     let y : ℕ → V = λ a. get_or c.reach.new.values a k.zero in
-    absent_refutes (λ _. Bounded k c.in-ok-graph.graph y) c.reach.result
+    absent_refutes (λ _. Bounded k c.in_ok-graph.graph y) c.reach.result
     (λ clean sizes. c.reach.ensures.finishes (falls_short falls lawful clean) (falls_light falls laws h weight weighs sizes))
     (λ (d : V) so. given_down falls laws h weight weighs y d so)
     c.reach.ensures.found

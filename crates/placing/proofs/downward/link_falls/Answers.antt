@@ -4,14 +4,14 @@ use Rattle.group.specs.Group.{sheet_of}
 use Rattle.placing.proofs.Adding.{adds_none, adds_more, adds_like, adds_nothing, below_all}
 use Rattle.placing.proofs.DownwardGraph.{FallTo, falls_by_all}
 use Rattle.placing.proofs.downward.link_falls.Goals as goal
-use Rattle.placing.proofs.downward.link_falls.Goals.{then-is-above, else-is-above}
+use Rattle.placing.proofs.downward.link_falls.Goals.{then-is_above, else-is_above}
 
 pub loop-b-init : goal.loop-b-init
 loop-b-init g c = adds_none c.args.graph.now (FallTo (sheet_of (g.B.Book.order c.args.book.now) c.args.group.now) c.args.a)
 
-pub link-fall-requires : goal.link-fall-requires
-link-fall-requires g c =
-    let over = c.is-above.ensures.0 c.if-is-above.true in
+pub link_fall-requires : goal.link_fall-requires
+link_fall-requires g c =
+    let over = c.is_above.ensures.0 c.if-is_above.true in
     record {
       nodes = omega (arith, c.loop-b.invariant.count, c.requires.nodes, c.requires.counts);
       cells = (omega (arith, over.apart.a_in, c.requires.counts), omega (arith, over.apart.b_in, c.requires.counts));
@@ -22,12 +22,12 @@ loop-b-preserved g c =
     let m = sheet_of (g.B.Book.order c.args.book.now) c.args.group.now in
     let S = FallTo m c.args.a in
     let b = c.loop-b.b in
-    elim c.if-is-above.branch [
-      | then-is-above w ↦
-          let over = c.is-above.ensures.0 w.if-is-above.true in
-          rw w.graph-is (adds_more S b c.loop-b.invariant (adds_like (λ x y s. (over, s)) (λ x y s. s.1) w.link-fall.ensures))
-      | else-is-above w ↦
-          let not = not_from_Decides c.is-above.result c.is-above.ensures w.if-is-above.false in
+    elim c.if-is_above.branch [
+      | then-is_above w ↦
+          let over = c.is_above.ensures.0 w.if-is_above.true in
+          rw w.graph-is (adds_more S b c.loop-b.invariant (adds_like (λ x y s. (over, s)) (λ x y s. s.1) w.link_fall.ensures))
+      | else-is_above w ↦
+          let not = not_from_Decides c.is_above.result c.is_above.ensures w.if-is_above.false in
           rw w.graph-is (adds_more S b c.loop-b.invariant (adds_nothing (λ x y s. not s.0)))
     ]
 

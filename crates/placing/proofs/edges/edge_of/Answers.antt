@@ -23,7 +23,7 @@ returns g c =
     in
     let twice : V = middle k c.args.span c.index-widths-a.result c.index-work-a.result c.index-work-count.result in
     rw (sym width, sym before, sym after)
-    (cases_map c.left-edge.result
+    (cases_map c.left_edge.result
     (λ none. none)
-    (λ (x : V) so. edge_at k m a twice x c.rounds-up.result c.rounds-up.ensures so)
-    c.left-edge.ensures)
+    (λ (x : V) so. edge_at k m a twice x c.rounds_up.result c.rounds_up.ensures so)
+    c.left_edge.ensures)

@@ -6,21 +6,21 @@ use Rattle.placing.specs.Edges.{EdgeAt}
 use Rattle.placing.proofs.Filling.{filled_more}
 use Rattle.placing.proofs.edges.left_edges.Goals as goal
 
-pub returns-in-err-span : goal.returns-in-err-span
-returns-in-err-span g c =
+pub returns-in_err-span : goal.returns-in_err-span
+returns-in_err-span g c =
     let k = g.T.Length.kind in
-    let over : sum_limit < k.measure c.args.half + k.measure c.args.half = c.in-err-span.ensures in
-    rw c.from-residual.ensures (λ room. let small = room.span_small in omega arith)
+    let over : sum_limit < k.measure c.args.half + k.measure c.args.half = c.in_err-span.ensures in
+    rw c.from_residual.ensures (λ room. let small = room.span_small in omega arith)
 
-pub returns-in-err-x : goal.returns-in-err-x
-returns-in-err-x g c =
+pub returns-in_err-x : goal.returns-in_err-x
+returns-in_err-x g c =
     let k = g.T.Length.kind in
-    let span : c.in-ok-span.span ≡ k.plus c.args.half c.args.half = c.in-ok-span.ensures.1 in
-    rw c.from-residual-in-err-x.ensures
-    (λ room. c.in-err-x.ensures (rw span (room.each c.loop-a.a (omega (arith, c.count-n.ensures, c.loop-a-test.true)))))
+    let span : c.in_ok-span.span ≡ k.plus c.args.half c.args.half = c.in_ok-span.ensures.1 in
+    rw c.from_residual-in_err-x.ensures
+    (λ room. c.in_err-x.ensures (rw span (room.each c.loop-a.a (omega (arith, c.count-n.ensures, c.loop-a-test.true)))))
 
-pub offset-bounds-x-a : goal.offset-bounds-x-a
-offset-bounds-x-a g c =
+pub offset_bounds-x-a : goal.offset_bounds-x-a
+offset_bounds-x-a g c =
     let inside : c.loop-a.a < length c.args.x.now = omega (arith, c.requires.x, c.count-n.ensures, c.loop-a-test.true) in
     search rules
 
@@ -32,14 +32,14 @@ loop-a-preserved g c =
     let m = sheet_of o c.args.group.now in
     let widths = c.args.widths.now in
     let work = c.args.work.now in
-    let twice : ℕ → V = λ b. middle k c.in-ok-span.span (get_or widths b k.zero) (get_or work b k.zero) (get_or work (o.count + b) k.zero) in
-    filled_more (λ (b : ℕ) (e : V). EdgeAt k m b (twice b) e) c.loop-a.x c.loop-a.a c.in-ok-x.field-0 k.zero
+    let twice : ℕ → V = λ b. middle k c.in_ok-span.span (get_or widths b k.zero) (get_or work b k.zero) (get_or work (o.count + b) k.zero) in
+    filled_more (λ (b : ℕ) (e : V). EdgeAt k m b (twice b) e) c.loop-a.x c.loop-a.a c.in_ok-x.field-0 k.zero
     (omega (arith, c.requires.x, c.loop-a.auto.x, c.count-n.ensures, c.loop-a-test.true))
     c.loop-a.invariant
-    c.in-ok-x.ensures
+    c.in_ok-x.ensures
 
 pub returns : goal.returns
 returns g c =
     let k = g.T.Length.kind in
-    let span : c.in-ok-span.span ≡ k.plus c.args.half c.args.half = c.in-ok-span.ensures.1 in
+    let span : c.in_ok-span.span ≡ k.plus c.args.half c.args.half = c.in_ok-span.ensures.1 in
     record { each = λ a here. rw (sym span) (c.loop-a.invariant a (omega (arith, here, c.count-n.ensures, c.loop-a-test.false))) }

@@ -8,25 +8,25 @@ use Rattle.group.specs.Group.{sheet_of}
 use Rattle.placing.proofs.placed.place.Goals as goal
 use Rattle.placing.proofs.placed.place.Goals.{then-count-n+in-default, else-count-n}
 
-pub returns-in-err-check-lists : goal.returns-in-err-check-lists
-returns-in-err-check-lists g c counts clean =
+pub returns-in_err-check_lists : goal.returns-in_err-check_lists
+returns-in_err-check_lists g c counts clean =
     let k = g.T.Length.kind in
     let o = g.B.Book.order c.args.book.now in
     let group = c.args.group.now in
     let l = five c.args.widths.now c.args.heights.now c.args.work.now c.args.x.now c.args.y.now in
-    let f = c.in-err-check-lists.field-0.0 in
-    exit_at (Placing k (sheet_of o group) l l) c.from-residual.result f c.from-residual.ensures.1
-    (misfitting_outcome k o group counts l f (subst (λ (n : ℕ). Misfitting n l f) c.count-n.ensures c.in-err-check-lists.ensures))
+    let f = c.in_err-check_lists.field-0.0 in
+    exit_at (Placing k (sheet_of o group) l l) c.from_residual.result f c.from_residual.ensures.1
+    (misfitting_outcome k o group counts l f (subst (λ (n : ℕ). Misfitting n l f) c.count-n.ensures c.in_err-check_lists.ensures))
 
-pub returns-in-err-check-sizes : goal.returns-in-err-check-sizes
-returns-in-err-check-sizes g c counts clean =
+pub returns-in_err-check_sizes : goal.returns-in_err-check_sizes
+returns-in_err-check_sizes g c counts clean =
     let k = g.T.Length.kind in
     let o = g.B.Book.order c.args.book.now in
     let group = c.args.group.now in
     let l = five c.args.widths.now c.args.heights.now c.args.work.now c.args.x.now c.args.y.now in
-    let f = c.in-err-check-sizes.field-0.0 in
-    exit_at (Placing k (sheet_of o group) l l) c.from-residual-in-err-check-sizes.result f c.from-residual-in-err-check-sizes.ensures.1
-    (unlawful_outcome k o group counts l f (subst (λ (n : ℕ). Fitting n l) c.count-n.ensures c.in-ok-check-lists.ensures) c.in-err-check-sizes.ensures)
+    let f = c.in_err-check_sizes.field-0.0 in
+    exit_at (Placing k (sheet_of o group) l l) c.from_residual-in_err-check_sizes.result f c.from_residual-in_err-check_sizes.ensures.1
+    (unlawful_outcome k o group counts l f (subst (λ (n : ℕ). Fitting n l) c.count-n.ensures c.in_ok-check_lists.ensures) c.in_err-check_sizes.ensures)
 
 pub returns-in-Some : goal.returns-in-Some
 returns-in-Some g c counts clean =
@@ -35,13 +35,13 @@ returns-in-Some g c counts clean =
     let group = c.args.group.now in
     let l = five c.args.widths.now c.args.heights.now c.args.work.now c.args.x.now c.args.y.now in
     let r = five c.args.widths.now c.args.heights.now c.give.new.work c.give.new.x c.give.new.y in
-    placed_outcome k o group counts l c.rule-places.ensures c.rule-is-best.ensures (lawful_sheet o group (g.met.B.Book.lawful c.args.book.now) counts) clean
-    (subst (λ (n : ℕ). Fitting n l) c.count-n.ensures c.in-ok-check-lists.ensures) c.in-ok-check-sizes.ensures r c.in-Some.extent refl refl c.in-Some.ensures
+    placed_outcome k o group counts l c.rule_places.ensures c.rule_is_best.ensures (lawful_sheet o group (g.met.B.Book.lawful c.args.book.now) counts) clean
+    (subst (λ (n : ℕ). Fitting n l) c.count-n.ensures c.in_ok-check_lists.ensures) c.in_ok-check_sizes.ensures r c.in-Some.extent refl refl c.in-Some.ensures
 
 pub returns : goal.returns
 returns g c counts clean =
     let o = g.B.Book.order c.args.book.now in
     absurd (elim c.if-count-n.branch [
-      | then-count-n+in-default w ↦ w.in-default.ensures clean (c.in-ok-check-sizes.ensures o (sym counts))
+      | then-count-n+in-default w ↦ w.in_default.ensures clean (c.in_ok-check_sizes.ensures o (sym counts))
       | else-count-n w ↦ w.if-count-n.false (c.count.ensures ∙ sym counts ∙ sym c.count-n.ensures)
     ])

@@ -23,7 +23,7 @@ loop-u-preserved g c =
     let f : ℕ → V = λ u. k.plus (get_or starts u k.zero) (dealt k.zero sizes u) in
     let start : c.index-starts-u.result ≡ get_or starts i k.zero = get_or_read starts i _ c.loop-u-test.true c.index-starts-u.is _ in
     let size : c.index-sizes-u.result ≡ dealt k.zero sizes i = get_or_read sizes (i % length sizes) _ (mod-lt i c.requires) c.index-sizes-u.is _ in
-    let sum : c.in-ok-plus.field-0 ≡ k.plus c.index-starts-u.result c.index-sizes-u.result = c.in-ok-plus.ensures.1 in
+    let sum : c.in_ok-plus.field-0 ≡ k.plus c.index-starts-u.result c.index-sizes-u.result = c.in_ok-plus.ensures.1 in
     let end : c.join-end.result ≡ k.join c.loop-u.end (f i) = cc in
     subst (λ (t : V). IsJoin k (λ (u : ℕ). u < i + 1) f t) (sym end) (below_more g.met.T.Length.laws f i c.loop-u.end c.loop-u.invariant)
 

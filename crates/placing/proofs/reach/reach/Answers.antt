@@ -26,14 +26,14 @@ returns g c =
     let long : length c.heaviest.new.out ≡ graph.nodes = omega (arith, c.heaviest.auto.out, c.requires.long) in
     record {
       found =
-          cases_map c.farthest-end.result
+          cases_map c.farthest_end.result
           (λ _. tt)
           (λ (d : V) so. record { heaviest = c.heaviest.ensures.found c.if-not-heaviest.false; end_is = join_same (λ u low. omega arith) (λ u low. omega arith) so })
-          c.farthest-end.ensures;
+          c.farthest_end.ensures;
       finishes = λ short light.
           let small = (c.heaviest.ensures.finishes c.requires.weighted c.requires.long short light).1 in
-          present c.farthest-end.result
+          present c.farthest_end.result
           (λ over. path_and_node_within k graph weight value light small over.0 (let low = over.1 in omega arith) over.2)
           (λ (d : V) so. small)
-          c.farthest-end.ensures;
+          c.farthest_end.ensures;
     }

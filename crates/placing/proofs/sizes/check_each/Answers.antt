@@ -3,15 +3,15 @@ use Rattle.placing.specs.Sizes.{no_width, no_height}
 use Rattle.placing.proofs.LawfulSizes.{so_at, not_at}
 use Rattle.placing.proofs.sizes.check_each.Goals as goal
 
-pub returns-then-not-is-size : goal.returns-then-not-is-size
-returns-then-not-is-size g c mate =
+pub returns-then-not-is_size : goal.returns-then-not-is_size
+returns-then-not-is_size g c mate =
     let size = g.T.Length.kind.size in
     no_width c.loop-cell-test.true c.loop-cell.invariant
-    (not_at size c.is-size.result c.is-size.ensures c.of-cell.ensures c.if-not-is-size.true)
+    (not_at size c.is_size.result c.is_size.ensures c.of_cell.ensures c.if-not-is_size.true)
 
-pub returns-then-not-is-size-2 : goal.returns-then-not-is-size-2
-returns-then-not-is-size-2 g c mate =
+pub returns-then-not-is_size-2 : goal.returns-then-not-is_size-2
+returns-then-not-is_size-2 g c mate =
     let size = g.T.Length.kind.size in
     no_height c.loop-cell-test.true c.loop-cell.invariant
-    (so_at size c.is-size.result c.is-size.ensures c.of-cell.ensures c.if-not-is-size.false)
-    (not_at size c.is-size-in-loop-cell.result c.is-size-in-loop-cell.ensures c.of-cell-in-loop-cell.ensures c.if-not-is-size-2.true)
+    (so_at size c.is_size.result c.is_size.ensures c.of_cell.ensures c.if-not-is_size.false)
+    (not_at size c.is_size-in-loop-cell.result c.is_size-in-loop-cell.ensures c.of_cell-in-loop-cell.ensures c.if-not-is_size-2.true)

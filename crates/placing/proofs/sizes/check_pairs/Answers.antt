@@ -29,11 +29,11 @@ loop-cell-preserved g c =
     below_more P c.loop-cell.cell c.loop-cell.invariant
     (λ b told. subst (λ (d : ℕ). Agree w h c.loop-cell.cell d) (same_some (sym c.partner.ensures ∙ c.in-Some.is) told) (c.agree.ensures.0 c.if-not-agree.false))
 
-pub loop-cell-preserved-in-default : goal.loop-cell-preserved-in-default
-loop-cell-preserved-in-default g c =
+pub loop-cell-preserved-in_default : goal.loop-cell-preserved-in_default
+loop-cell-preserved-in_default g c =
     let k = g.T.Length.kind in
     let P : ℕ → Type 0 = Matched (mate_of c.args.group.now) (entries k c.args.widths.now) (entries k c.args.heights.now) in
-    below_more P c.loop-cell.cell c.loop-cell.invariant (λ b told. absurd (c.in-default.not-Some b (c.partner.ensures ∙ told)))
+    below_more P c.loop-cell.cell c.loop-cell.invariant (λ b told. absurd (c.in_default.not-Some b (c.partner.ensures ∙ told)))
 
 pub returns : goal.returns
 returns g c a low = c.loop-cell.invariant a (omega (arith, low, c.count-cell-end.ensures, c.loop-cell-test.false))

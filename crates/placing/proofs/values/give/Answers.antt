@@ -5,14 +5,14 @@ use Rattle.placing.proofs.LawfulSheet.{lawful_sheet}
 use Rattle.placing.proofs.RoomAcross.{room_for_all}
 use Rattle.placing.proofs.values.give.Goals as goal
 
-pub returns-in-err-depth : goal.returns-in-err-depth
-returns-in-err-depth g c = rw c.from-residual.ensures (λ clean sized. c.in-err-depth.ensures clean sized.high)
+pub returns-in_err-depth : goal.returns-in_err-depth
+returns-in_err-depth g c = rw c.from_residual.ensures (λ clean sized. c.in_err-depth.ensures clean sized.high)
 
-pub returns-in-err-longest : goal.returns-in-err-longest
-returns-in-err-longest g c = rw c.from-residual-in-err-longest.ensures (λ clean sized. c.in-err-longest.ensures.finishes clean sized.wide)
+pub returns-in_err-longest : goal.returns-in_err-longest
+returns-in_err-longest g c = rw c.from_residual-in_err-longest.ensures (λ clean sized. c.in_err-longest.ensures.finishes clean sized.wide)
 
-pub returns-in-err-left-edges : goal.returns-in-err-left-edges
-returns-in-err-left-edges g c =
+pub returns-in_err-left_edges : goal.returns-in_err-left_edges
+returns-in_err-left_edges g c =
     let V = g.row.T.Denot in
     let k = g.T.Length.kind in
     let o = g.B.Book.order c.args.book.now in
@@ -21,22 +21,22 @@ returns-in-err-left-edges g c =
     let w : ℕ → V = λ a. get_or c.args.widths.now a k.zero in
     let before : ℕ → V = λ a. get_or c.chains.new.work a k.zero in
     let after : ℕ → V = λ a. get_or c.chains.new.work (o.count + a) k.zero in
-    let across = c.in-ok-longest.ensures in
-    rw c.from-residual-in-err-left-edges.ensures
+    let across = c.in_ok-longest.ensures in
+    rw c.from_residual-in_err-left_edges.ensures
     (λ clean sized.
-    c.in-err-left-edges.ensures
-    (subst (λ (half : V). RoomForAll k m w before after half) (sym c.upper-half-half-span.ensures)
+    c.in_err-left_edges.ensures
+    (subst (λ (half : V). RoomForAll k m w before after half) (sym c.upper_half-half_span.ensures)
     (room_for_all g.met.T.Length.laws lawful sized across.found (across.finishes clean sized.wide))))
 
 pub returns : goal.returns
 returns g c =
-    let down = c.in-ok-depth.ensures in
-    let across = c.in-ok-longest.ensures.found in
-    let edges = c.in-ok-left-edges.ensures in
+    let down = c.in_ok-depth.ensures in
+    let across = c.in_ok-longest.ensures.found in
+    let edges = c.in_ok-left_edges.ensures in
     record {
-      longest = c.in-ok-longest.longest;
+      longest = c.in_ok-longest.longest;
       longest_is = across.longest_is;
-      half_is = c.upper-half-half-span.ensures;
+      half_is = c.upper_half-half_span.ensures;
       before_is = across.before_is;
       after_is = across.after_is;
       up = λ a here. (edges.each a here).up;

@@ -14,8 +14,8 @@ loop-step-init g c =
 pub loop-step-preserved : goal.loop-step-preserved
 loop-step-preserved g c =
     let sound = c.loop-step.invariant.0 in
-    let told = c.in-ok-answer.ensures in
-    (told.sound sound, ran_next c.args.steps.now c.loop-step.step-index c.step-item.result c.in-ok-answer.answer (vec_items c.loop-step.answers) (vec_items c.push.new.self) c.loop-step-test.true c.step-item.is c.in-ok-push.ensures.items c.loop-step.invariant.1 (told.came sound))
+    let told = c.in_ok-answer.ensures in
+    (told.sound sound, ran_next c.args.steps.now c.loop-step.step-index c.step-item.result c.in_ok-answer.answer (vec_items c.loop-step.answers) (vec_items c.push.new.self) c.loop-step-test.true c.step-item.is c.in_ok-push.ensures.items c.loop-step.invariant.1 (told.came sound))
 
 pub returns : goal.returns
 returns g c = record {

@@ -4,12 +4,12 @@ use Rattle.writing.proofs.Checking.{passed, refused}
 use Rattle.writing.proofs.Numbers.{size_by_numbers}
 use Rattle.writing.proofs.checks.check_size.Goals as goal
 
-pub returns-then-is-size : goal.returns-then-is-size
-returns-then-is-size g c =
-    let same = size_by_numbers (g.T.Length.numbers c.args.length) c.is-size.result c.is-size.ensures (g.met.T.Length.sized c.args.length) in
-    sym (passed _ (fault.NotASize 0 c.args.cell c.args.side) (same ∙ c.if-is-size.true))
+pub returns-then-is_size : goal.returns-then-is_size
+returns-then-is_size g c =
+    let same = size_by_numbers (g.T.Length.numbers c.args.length) c.is_size.result c.is_size.ensures (g.met.T.Length.sized c.args.length) in
+    sym (passed _ (fault.NotASize 0 c.args.cell c.args.side) (same ∙ c.if-is_size.true))
 
-pub returns-else-is-size : goal.returns-else-is-size
-returns-else-is-size g c =
-    let same = size_by_numbers (g.T.Length.numbers c.args.length) c.is-size.result c.is-size.ensures (g.met.T.Length.sized c.args.length) in
-    sym (refused _ (fault.NotASize 0 c.args.cell c.args.side) (same ∙ c.if-is-size.false))
+pub returns-else-is_size : goal.returns-else-is_size
+returns-else-is_size g c =
+    let same = size_by_numbers (g.T.Length.numbers c.args.length) c.is_size.result c.is_size.ensures (g.met.T.Length.sized c.args.length) in
+    sym (refused _ (fault.NotASize 0 c.args.cell c.args.side) (same ∙ c.if-is_size.false))

@@ -3,13 +3,13 @@ use Rattle.std.proofs.lemmas.Bool.Decides.{nat_tests}
 use Rattle.writing.proofs.Numbers.{long_by_count}
 use Rattle.writing.proofs.checks.is_long.Goals as goal
 
-pub returns-then-is-empty : goal.returns-then-is-empty
-returns-then-is-empty g c =
+pub returns-then-is_empty : goal.returns-then-is_empty
+returns-then-is_empty g c =
     let long = long_by_count g.T.Length.numbers g.T.Length.count g.met.T.Length.listed c.args.processes c.args.n c.args.list.now in
     rw long (grind (arith, nat_tests))
 
-pub returns-else-is-empty : goal.returns-else-is-empty
-returns-else-is-empty g c =
+pub returns-else-is_empty : goal.returns-else-is_empty
+returns-else-is_empty g c =
     let long = long_by_count g.T.Length.numbers g.T.Length.count g.met.T.Length.listed c.args.processes c.args.n c.args.list.now in
     rw long (grind (arith, nat_tests))
 

@@ -8,13 +8,13 @@ use Rattle.writing.proofs.PutTogether.{puts_join, puts_same, storable_take, take
 use Rattle.writing.proofs.LawfulJobs.{lawful_small}
 use Rattle.writing.proofs.job.put_up_to.Goals as goal
 
-pub put-entries-requires : goal.put-entries-requires
-put-entries-requires g c =
+pub put_entries-requires : goal.put_entries-requires
+put_entries-requires g c =
     let es = c.deref.result.now in
     let small = lawful_small (job_fields g.T.Length.numbers c.args.job.now) c.requires.lawful in
     let same : vec_items c.args.job.now.entries ≡ es = sym c.deref.ensures.value in
     record {
-      room = omega (arith, c.put-before-entries-place.ensures.few, length-take c.min-entries.result es, small.entries_few, ap length same);
+      room = omega (arith, c.put_before_entries-place.ensures.few, length-take c.min-entries.result es, small.entries_few, ap length same);
       small = storable_take es c.min-entries.result (subst (λ (xs : List Entry). EachStorable (entry_numbers xs)) same small.entries_small);
     }
 
@@ -23,4 +23,4 @@ returns g c =
     let items = vec_items c.args.job.now.entries in
     let cut : take c.min-entries.result c.deref.result.now ≡ take c.args.entry items =
     ap₂ take c.min-entries.ensures c.deref.ensures.value ∙ take_min c.args.entry c.len.result items (c.len.ensures ∙ c.args.job.now.entries.ok.0) in
-    puts_join c.put-before-entries-place.ensures.put c.put-before-entries-place.auto.out (puts_same (ap entry_numbers cut) c.put-entries.ensures)
+    puts_join c.put_before_entries-place.ensures.put c.put_before_entries-place.auto.out (puts_same (ap entry_numbers cut) c.put_entries.ensures)

@@ -4,12 +4,12 @@ use Rattle.book.proofs.Trade.{traded, traded_within, traded_once}
 use Rattle.book.proofs.Cells.{cells_in}
 use Rattle.book.proofs.sequence_book.SequencePairBook.swap.Goals as goal
 
-pub invariant-of-self : goal.invariant-of-self
-invariant-of-self c =
+pub invariant_of-self : goal.invariant_of-self
+invariant_of-self c =
     let s = c.args.self.now in
     let a = c.args.a in
     let b = c.args.b in
-    let ok = cells_in s.count a b _ _ c.in-ok-within.ensures in
+    let ok = cells_in s.count a b _ _ c.in_ok-within.ensures in
     let p = c.swap.ensures.places in
     let q = c.swap-2.ensures.places in
     let first = c.swap.new.self in
@@ -25,4 +25,4 @@ returns c =
     let q = c.swap-2.ensures.places in
     let first = traded s.first c.swap.new.self a b p.0 p.1 p.2 in
     let second = traded s.second c.swap-2.new.self a b q.0 q.1 q.2 in
-    record { answer = c.in-ok-within.ensures; meaning = record { count = refl; each = λ x y _. simp (first x, first y, second x, second y) } }
+    record { answer = c.in_ok-within.ensures; meaning = record { count = refl; each = λ x y _. simp (first x, first y, second x, second y) } }

@@ -13,50 +13,50 @@ pub returns-then-n-eq0 : goal.returns-then-n-eq0
 returns-then-n-eq0 c = bad_count (λ k. omega (arith, k.0, k.1, c.then-n-eq0.either))
 
 pub returns-then-first-n : goal.returns-then-first-n
-returns-then-first-n c = first_length (omega arith, c.if-n-gt-MOST-CELLS.false) c.if-first-n.true
+returns-then-first-n c = first_length (omega arith, c.if-n-gt-MOST_CELLS.false) c.if-first-n.true
 
 pub returns-then-second-n : goal.returns-then-second-n
-returns-then-second-n c = second_length (omega arith, c.if-n-gt-MOST-CELLS.false) c.if-first-n.false c.if-second-n.true
+returns-then-second-n c = second_length (omega arith, c.if-n-gt-MOST_CELLS.false) c.if-first-n.false c.if-second-n.true
 
-pub returns-in-err-first : goal.returns-in-err-first
-returns-in-err-first c =
+pub returns-in_err-first : goal.returns-in_err-first
+returns-in_err-first c =
     let n = c.args.n in
     let first = c.args.first.now in
     let second = c.args.second.now in
-    let f = c.in-err-first.ensures in
-    exit_with _ (NoRows n first second) c.from-residual.result (sheet.Field c.in-err-first.field-0.0) c.from-residual.ensures.1
-    (subst (λ x. NoRows n first second (sheet.Field x)) (sym f.2) (first_breaks (omega arith, c.if-n-gt-MOST-CELLS.false) c.if-first-n.false c.if-second-n.false f.1))
+    let f = c.in_err-first.ensures in
+    exit_with _ (NoRows n first second) c.from_residual.result (sheet.Field c.in_err-first.field-0.0) c.from_residual.ensures.1
+    (subst (λ x. NoRows n first second (sheet.Field x)) (sym f.2) (first_breaks (omega arith, c.if-n-gt-MOST_CELLS.false) c.if-first-n.false c.if-second-n.false f.1))
 
-pub returns-in-err-second : goal.returns-in-err-second
-returns-in-err-second c =
+pub returns-in_err-second : goal.returns-in_err-second
+returns-in_err-second c =
     let n = c.args.n in
     let first = c.args.first.now in
     let second = c.args.second.now in
-    let f = c.in-err-second.ensures in
-    exit_with _ (NoRows n first second) c.from-residual-in-err-second.result (sheet.Field c.in-err-second.field-0.0) c.from-residual-in-err-second.ensures.1
-    (subst (λ x. NoRows n first second (sheet.Field x)) (sym f.2) (second_breaks (omega arith, c.if-n-gt-MOST-CELLS.false) (inverse_row n first c.in-ok-first.first c.if-first-n.false c.in-ok-first.ensures) c.if-second-n.false f.1))
+    let f = c.in_err-second.ensures in
+    exit_with _ (NoRows n first second) c.from_residual-in_err-second.result (sheet.Field c.in_err-second.field-0.0) c.from_residual-in_err-second.ensures.1
+    (subst (λ x. NoRows n first second (sheet.Field x)) (sym f.2) (second_breaks (omega arith, c.if-n-gt-MOST_CELLS.false) (inverse_row n first c.in_ok-first.first c.if-first-n.false c.in_ok-first.ensures) c.if-second-n.false f.1))
 
-pub invariant-of-result : goal.invariant-of-result
-invariant-of-result c =
+pub invariant_of-result : goal.invariant_of-result
+invariant_of-result c =
     let n = c.args.n in
     let first = c.args.first.now in
     let second = c.args.second.now in
-    let p = c.in-ok-first.first in
-    let q = c.in-ok-second.second in
-    let one = c.in-ok-first.ensures in
-    let two = c.in-ok-second.ensures in
-    (omega arith, (c.if-n-gt-MOST-CELLS.false, (one.long, (two.long, (inverse_within n first p c.if-first-n.false one, (inverse_once n first p c.if-first-n.false one, (inverse_within n second q c.if-second-n.false two, (inverse_once n second q c.if-second-n.false two, tt))))))))
+    let p = c.in_ok-first.first in
+    let q = c.in_ok-second.second in
+    let one = c.in_ok-first.ensures in
+    let two = c.in_ok-second.ensures in
+    (omega arith, (c.if-n-gt-MOST_CELLS.false, (one.long, (two.long, (inverse_within n first p c.if-first-n.false one, (inverse_once n first p c.if-first-n.false one, (inverse_within n second q c.if-second-n.false two, (inverse_once n second q c.if-second-n.false two, tt))))))))
 
 pub returns : goal.returns
 returns c =
     let n = c.args.n in
     let first = c.args.first.now in
     let second = c.args.second.now in
-    let one = c.in-ok-first.ensures in
-    let two = c.in-ok-second.ensures in
+    let one = c.in_ok-first.ensures in
+    let two = c.in_ok-second.ensures in
     record {
       count = refl;
-      first_row = inverse_row n first c.in-ok-first.first c.if-first-n.false one;
-      second_row = inverse_row n second c.in-ok-second.second c.if-second-n.false two;
-      each = λ a b d. told_by_places n first second c.in-ok-first.first c.in-ok-second.second c.if-first-n.false c.if-second-n.false one two a b d.a_in d.b_in d.differ;
+      first_row = inverse_row n first c.in_ok-first.first c.if-first-n.false one;
+      second_row = inverse_row n second c.in_ok-second.second c.if-second-n.false two;
+      each = λ a b d. told_by_places n first second c.in_ok-first.first c.in_ok-second.second c.if-first-n.false c.if-second-n.false one two a b d.a_in d.b_in d.differ;
     }

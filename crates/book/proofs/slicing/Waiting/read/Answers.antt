@@ -7,8 +7,8 @@ use Rattle.book.proofs.Standing.{once_push}
 use Rattle.book.proofs.Holding.{cells_fit, found_stands, room_for_one, two_stackable, join_reads}
 use Rattle.book.proofs.slicing.Waiting.read.Goals as goal
 
-pub slice-bounds-contains-end : goal.slice-bounds-contains-end
-slice-bounds-contains-end c = let h = c.requires.held in cells_fit h.0 c.args.self.now h.1 (omega arith)
+pub slice_bounds-contains-end : goal.slice_bounds-contains-end
+slice_bounds-contains-end c = let h = c.requires.held in cells_fit h.0 c.args.self.now h.1 (omega arith)
 
 pub returns-then-contains : goal.returns-then-contains
 returns-then-contains c ps h once =

@@ -11,23 +11,23 @@ pub returns-then-n-eq0 : goal.returns-then-n-eq0
 returns-then-n-eq0 c = bad_count (λ k. omega (arith, k.0, k.1, c.then-n-eq0.either))
 
 pub returns-then-expression-n : goal.returns-then-expression-n
-returns-then-expression-n c = wrong_length (omega arith, c.if-n-gt-MOST-CELLS.false) (λ e. c.if-expression-n.true (omega arith))
+returns-then-expression-n c = wrong_length (omega arith, c.if-n-gt-MOST_CELLS.false) (λ e. c.if-expression-n.true (omega arith))
 
-pub returns-in-err-rows : goal.returns-in-err-rows
-returns-in-err-rows c =
+pub returns-in_err-rows : goal.returns-in_err-rows
+returns-in_err-rows c =
     let n = c.args.n in
     let expr = c.args.expression.now in
-    let f = c.in-err-rows.ensures in
-    exit_with _ (NoExpression n expr) c.from-residual.result (sheet.Field c.in-err-rows.field-0.0) c.from-residual.ensures.1
-    (subst (λ x. NoExpression n expr (sheet.Field x)) (sym f.2) (breaks (omega arith, c.if-n-gt-MOST-CELLS.false) (omega arith) f.1))
+    let f = c.in_err-rows.ensures in
+    exit_with _ (NoExpression n expr) c.from_residual.result (sheet.Field c.in_err-rows.field-0.0) c.from_residual.ensures.1
+    (subst (λ x. NoExpression n expr (sheet.Field x)) (sym f.2) (breaks (omega arith, c.if-n-gt-MOST_CELLS.false) (omega arith) f.1))
 
-pub returns-in-err-pair : goal.returns-in-err-pair
-returns-in-err-pair c =
+pub returns-in_err-pair : goal.returns-in_err-pair
+returns-in_err-pair c =
     let n = c.args.n in
     let expr = c.args.expression.now in
-    let rows = c.in-ok-rows.rows in
-    let whole = c.in-ok-rows.ensures in
-    absurd (rows_lawful (omega arith, c.if-n-gt-MOST-CELLS.false) (whole_first n expr rows whole) (whole_second n expr rows whole) c.in-err-pair.ensures)
+    let rows = c.in_ok-rows.rows in
+    let whole = c.in_ok-rows.ensures in
+    absurd (rows_lawful (omega arith, c.if-n-gt-MOST_CELLS.false) (whole_first n expr rows whole) (whole_second n expr rows whole) c.in_err-pair.ensures)
 
 pub returns : goal.returns
-returns c = whole_expression c.args.n c.args.expression.now c.in-ok-rows.rows c.in-ok-rows.ensures _ c.in-ok-pair.ensures
+returns c = whole_expression c.args.n c.args.expression.now c.in_ok-rows.rows c.in_ok-rows.ensures _ c.in_ok-pair.ensures

@@ -3,8 +3,8 @@ use Rattle.std.proofs.lemmas.List.{length-set}
 use Rattle.graph.proofs.Links.{linked_within}
 use Rattle.graph.proofs.graph.Graph.link.Goals as goal
 
-pub invariant-of-self : goal.invariant-of-self
-invariant-of-self c =
+pub invariant_of-self : goal.invariant_of-self
+invariant_of-self c =
     let g = c.args.self.now in
     let v = c.args.v in
     let t = c.insert.new.self in

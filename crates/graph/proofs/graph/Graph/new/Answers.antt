@@ -3,8 +3,8 @@ use Rattle.graph.specs.Nodes.{most_nodes}
 use Rattle.graph.proofs.Links.{none_next}
 use Rattle.graph.proofs.graph.Graph.new.Goals as goal
 
-pub invariant-of-result : goal.invariant-of-result
-invariant-of-result c = (c.if-nodes-gt-MOST-NODES.false, (refl, (λ v u h. absurd (none_next most_nodes v u h), tt)))
+pub invariant_of-result : goal.invariant_of-result
+invariant_of-result c = (c.if-nodes-gt-MOST_NODES.false, (refl, (λ v u h. absurd (none_next most_nodes v u h), tt)))
 
 pub returns : goal.returns
-returns c = (c.if-nodes-gt-MOST-NODES.false, record { count = refl; nothing = λ v u h. none_next most_nodes v u h.1 })
+returns c = (c.if-nodes-gt-MOST_NODES.false, record { count = refl; nothing = λ v u h. none_next most_nodes v u h.1 })

@@ -4,8 +4,8 @@ use Rattle.graph.specs.Nodes.{most_nodes}
 use Rattle.graph.proofs.Sets.{has_below}
 use Rattle.graph.proofs.node_set.NodeSet.contains.Goals as goal
 
-pub returns-else-u-lt-MOST-NODES : goal.returns-else-u-lt-MOST-NODES
-returns-else-u-lt-MOST-NODES c =
+pub returns-else-u-lt-MOST_NODES : goal.returns-else-u-lt-MOST_NODES
+returns-else-u-lt-MOST_NODES c =
     let s = c.args.self in
     let u = c.args.u in
     let fits : s.0 < 2 ^ most_nodes = search rules in

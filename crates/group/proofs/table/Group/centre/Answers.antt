@@ -7,22 +7,22 @@ use Rattle.group.proofs.table.Group.centre.Goals as goal
 pub returns-then-a-self : goal.returns-then-a-self
 returns-then-a-self c = record { answer = centre_outside c.args.self.now.count (mate_of c.args.self.now) c.args.a c.if-a-self.true; count = refl; mates = λ x. refl }
 
-pub returns-then-is-some : goal.returns-then-is-some
-returns-then-is-some c = record {
-  answer = centre_grouped c.args.self.now.count (mate_of c.args.self.now) c.args.a c.if-a-self.false (ap is_some (sym c.partner.ensures) ∙ sym c.if-is-some.ensures);
+pub returns-then-is_some : goal.returns-then-is_some
+returns-then-is_some c = record {
+  answer = centre_grouped c.args.self.now.count (mate_of c.args.self.now) c.args.a c.if-a-self.false (ap is_some (sym c.partner.ensures) ∙ sym c.if-is_some.ensures);
   count = refl;
   mates = λ x. refl;
 }
 
-pub invariant-of-self : goal.invariant-of-self
-invariant-of-self c =
+pub invariant_of-self : goal.invariant_of-self
+invariant_of-self c =
     let s = c.args.self.now in
     let a = c.args.a in
     let p = s.partner in
     let few = s.few in
     let long = s.long in
     let inside : a < length p = omega (arith, c.if-a-self.false) in
-    let free = sym c.partner.ensures ∙ not_some c.partner.result c.if-is-some.ensures in
+    let free = sym c.partner.ensures ∙ not_some c.partner.result c.if-is_some.ensures in
     let here = written_here p a inside (Some a) in
     let other = λ (x : ℕ) (u v : x ≡ a → ⊥). written_elsewhere p a inside (Some a) x u in
     (few, (simp length-set long, (joined_inside s.count p (set p a (Some a)) a a here here other c.if-a-self.false c.if-a-self.false s.inside, (joined_returned s.count p (set p a (Some a)) a a here here other free free s.returned, tt))))
@@ -36,7 +36,7 @@ returns c =
     let long = s.long in
     let inside : a < length p = omega (arith, c.if-a-self.false) in
     record {
-      answer = centre_fine s.count (mate_of s) a c.if-a-self.false (ap is_some (sym c.partner.ensures) ∙ sym c.if-is-some.ensures);
+      answer = centre_fine s.count (mate_of s) a c.if-a-self.false (ap is_some (sym c.partner.ensures) ∙ sym c.if-is_some.ensures);
       count = refl;
       mates = means_centred p (set p a (Some a)) a (written_here p a inside (Some a)) (written_elsewhere p a inside (Some a));
     }

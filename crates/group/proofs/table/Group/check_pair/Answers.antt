@@ -12,19 +12,19 @@ returns-then-b-self c = pair_second_outside c.args.self.now.count (mate_of c.arg
 pub returns-then-a-b : goal.returns-then-a-b
 returns-then-a-b c = pair_same c.args.self.now.count (mate_of c.args.self.now) c.args.a c.args.b c.if-a-self.false c.if-b-self.false c.if-a-b.true
 
-pub returns-then-is-some : goal.returns-then-is-some
-returns-then-is-some c =
+pub returns-then-is_some : goal.returns-then-is_some
+returns-then-is_some c =
     pair_first_grouped c.args.self.now.count (mate_of c.args.self.now) c.args.a c.args.b c.if-a-self.false c.if-b-self.false c.if-a-b.false
-    (ap is_some (sym c.partner.ensures) ∙ sym c.if-is-some.ensures)
+    (ap is_some (sym c.partner.ensures) ∙ sym c.if-is_some.ensures)
 
-pub returns-then-is-some-2 : goal.returns-then-is-some-2
-returns-then-is-some-2 c =
+pub returns-then-is_some-2 : goal.returns-then-is_some-2
+returns-then-is_some-2 c =
     pair_second_grouped c.args.self.now.count (mate_of c.args.self.now) c.args.a c.args.b c.if-a-self.false c.if-b-self.false c.if-a-b.false
-    (ap is_some (sym c.partner.ensures) ∙ sym c.if-is-some.ensures)
-    (ap is_some (sym c.partner-2.ensures) ∙ sym c.if-is-some-2.ensures)
+    (ap is_some (sym c.partner.ensures) ∙ sym c.if-is_some.ensures)
+    (ap is_some (sym c.partner-2.ensures) ∙ sym c.if-is_some-2.ensures)
 
 pub returns : goal.returns
 returns c =
     pair_fine c.args.self.now.count (mate_of c.args.self.now) c.args.a c.args.b c.if-a-self.false c.if-b-self.false c.if-a-b.false
-    (ap is_some (sym c.partner.ensures) ∙ sym c.if-is-some.ensures)
-    (ap is_some (sym c.partner-2.ensures) ∙ sym c.if-is-some-2.ensures)
+    (ap is_some (sym c.partner.ensures) ∙ sym c.if-is_some.ensures)
+    (ap is_some (sym c.partner-2.ensures) ∙ sym c.if-is_some-2.ensures)

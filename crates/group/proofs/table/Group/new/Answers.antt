@@ -3,8 +3,8 @@ use Rattle.book.specs.Order.{most_cells}
 use Rattle.group.proofs.Tables.{all_free, none_not_some}
 use Rattle.group.proofs.table.Group.new.Goals as goal
 
-pub invariant-of-result : goal.invariant-of-result
-invariant-of-result g c =
+pub invariant_of-result : goal.invariant_of-result
+invariant_of-result g c =
     let laws = g.met.B.Book.lawful c.args.book.now in
     (omega (arith, laws.few, c.count.ensures), (refl, (λ x y e. absurd (none_not_some (all_free most_cells x) e), (λ x y e. absurd (none_not_some (all_free most_cells x) e), tt))))
 

@@ -7,15 +7,15 @@ use Rattle.group.proofs.table.Group.release.Goals as goal
 pub returns-then-a-self : goal.returns-then-a-self
 returns-then-a-self c = record { answer = release_outside c.args.self.now.count (mate_of c.args.self.now) c.args.a c.if-a-self.true; count = refl; mates = λ x. refl }
 
-pub returns-in-default : goal.returns-in-default
-returns-in-default c = record {
-  answer = release_free c.args.self.now.count (mate_of c.args.self.now) c.args.a c.if-a-self.false (ap is_some (sym c.in-default.ensures));
+pub returns-in_default : goal.returns-in_default
+returns-in_default c = record {
+  answer = release_free c.args.self.now.count (mate_of c.args.self.now) c.args.a c.if-a-self.false (ap is_some (sym c.in_default.ensures));
   count = refl;
   mates = λ x. refl;
 }
 
-pub offset-bounds-self-mate : goal.offset-bounds-self-mate
-offset-bounds-self-mate c =
+pub offset_bounds-self-mate : goal.offset_bounds-self-mate
+offset_bounds-self-mate c =
     let s = c.args.self.now in
     let few = s.few in
     let m-in = mate_inside s.count s.partner c.args.a c.in-Some.mate s.inside s.returned (sym c.in-Some.ensures) in
@@ -28,8 +28,8 @@ bounds-self-mate c =
     let m-in = mate_inside s.count s.partner c.args.a c.in-Some.mate s.inside s.returned (sym c.in-Some.ensures) in
     omega arith
 
-pub invariant-of-self : goal.invariant-of-self
-invariant-of-self c =
+pub invariant_of-self : goal.invariant_of-self
+invariant_of-self c =
     let s = c.args.self.now in
     let a = c.args.a in
     let m = c.in-Some.mate in

@@ -13,29 +13,29 @@ loop-cell-init g c =
     let vs = ap (map numbers) c.new-seconds.ensures.items in
     (refl, ap length us, all_left (λ (k : ℕ) (d : Columns). columns (rule_of c.args.allowed) g.T.Length.count k d c.args.self.now.bytes.now c.args.self.now.at) c.args.n (ap (λ (x : List (List ℕ)). both_columns x (map numbers (vec_items c.new-seconds.result))) us ∙ ap (both_columns []) vs))
 
-pub returns-in-err-first : goal.returns-in-err-first
-returns-in-err-first g c =
+pub returns-in_err-first : goal.returns-in_err-first
+returns-in_err-first g c =
     let rule = rule_of c.args.allowed in
     let k = g.T.Length.count in
-    let told = c.in-err-first.ensures in
+    let told = c.in_err-first.ensures in
     let here = re_read (λ (_ : ℕ) (s : List ℕ). one_length rule k c.loop-cell.cell Width s c.loop-cell.self.at) {before = 0} refl c.loop-cell.invariant.0 told.told in
     record {
       same = told.same ∙ c.loop-cell.invariant.0;
-      told = refused_by _ _ _ _ c.from-residual.ensures.1 (c.loop-cell.invariant.2 ∙ first_fails rule k c.args.n c.loop-cell.cell (map g.T.Length.numbers (vec_items c.loop-cell.firsts)) (map g.T.Length.numbers (vec_items c.loop-cell.seconds)) c.args.self.now.bytes.now c.loop-cell.self.at c.loop-cell.invariant.1 _ c.loop-cell-test.true here);
+      told = refused_by _ _ _ _ c.from_residual.ensures.1 (c.loop-cell.invariant.2 ∙ first_fails rule k c.args.n c.loop-cell.cell (map g.T.Length.numbers (vec_items c.loop-cell.firsts)) (map g.T.Length.numbers (vec_items c.loop-cell.seconds)) c.args.self.now.bytes.now c.loop-cell.self.at c.loop-cell.invariant.1 _ c.loop-cell-test.true here);
     }
 
-pub returns-in-err-second : goal.returns-in-err-second
-returns-in-err-second g c =
+pub returns-in_err-second : goal.returns-in_err-second
+returns-in_err-second g c =
     let rule = rule_of c.args.allowed in
     let k = g.T.Length.count in
-    let first = c.in-ok-first.ensures in
-    let told = c.in-err-second.ensures in
+    let first = c.in_ok-first.ensures in
+    let told = c.in_err-second.ensures in
     let same = first.same ∙ c.loop-cell.invariant.0 in
     let wide = re_read (λ (_ : ℕ) (s : List ℕ). one_length rule k c.loop-cell.cell Width s c.loop-cell.self.at) {before = 0} refl c.loop-cell.invariant.0 first.told in
     let high = re_read (λ (_ : ℕ) (s : List ℕ). one_length rule k c.loop-cell.cell Height s c.length.new.self.at) {before = 0} refl same told.told in
     record {
       same = told.same ∙ same;
-      told = refused_by _ _ _ _ c.from-residual-in-err-second.ensures.1 (c.loop-cell.invariant.2 ∙ second_fails rule k c.args.n c.loop-cell.cell (map g.T.Length.numbers (vec_items c.loop-cell.firsts)) (map g.T.Length.numbers (vec_items c.loop-cell.seconds)) c.args.self.now.bytes.now c.loop-cell.self.at c.loop-cell.invariant.1 (g.T.Length.numbers c.in-ok-first.first) c.length.new.self.at c.loop-cell-test.true wide _ high);
+      told = refused_by _ _ _ _ c.from_residual-in_err-second.ensures.1 (c.loop-cell.invariant.2 ∙ second_fails rule k c.args.n c.loop-cell.cell (map g.T.Length.numbers (vec_items c.loop-cell.firsts)) (map g.T.Length.numbers (vec_items c.loop-cell.seconds)) c.args.self.now.bytes.now c.loop-cell.self.at c.loop-cell.invariant.1 (g.T.Length.numbers c.in_ok-first.first) c.length.new.self.at c.loop-cell-test.true wide _ high);
     }
 
 pub loop-cell-preserved : goal.loop-cell-preserved
@@ -46,16 +46,16 @@ loop-cell-preserved g c =
     let cell = c.loop-cell.cell in
     let us = map numbers (vec_items c.loop-cell.firsts) in
     let vs = map numbers (vec_items c.loop-cell.seconds) in
-    let u = c.in-ok-first.first in
-    let v = c.in-ok-second.second in
+    let u = c.in_ok-first.first in
+    let v = c.in_ok-second.second in
     let file = c.args.self.now.bytes.now in
-    let first = c.in-ok-first.ensures in
-    let second = c.in-ok-second.ensures in
+    let first = c.in_ok-first.ensures in
+    let second = c.in_ok-second.ensures in
     let same = first.same ∙ c.loop-cell.invariant.0 in
     let wide = re_read (λ (_ : ℕ) (s : List ℕ). one_length rule k cell Width s c.loop-cell.self.at) {before = 0} refl c.loop-cell.invariant.0 first.told in
     let high = re_read (λ (_ : ℕ) (s : List ℕ). one_length rule k cell Height s c.length.new.self.at) {before = 0} refl same second.told in
-    let firsts = one_pushed numbers (vec_items c.loop-cell.firsts) u (vec_items c.push.new.self) c.in-ok-push.ensures.items in
-    let seconds = one_pushed numbers (vec_items c.loop-cell.seconds) v (vec_items c.push-in-loop-cell.new.self) c.in-ok-push-2.ensures.items in (
+    let firsts = one_pushed numbers (vec_items c.loop-cell.firsts) u (vec_items c.push.new.self) c.in_ok-push.ensures.items in
+    let seconds = one_pushed numbers (vec_items c.loop-cell.seconds) v (vec_items c.push-in-loop-cell.new.self) c.in_ok-push-2.ensures.items in (
       second.same ∙ same,
       ap length firsts ∙ one_longer us (numbers u) cell c.loop-cell.invariant.1,
       c.loop-cell.invariant.2

@@ -9,32 +9,32 @@ pub loop-init : goal.loop-init
 loop-init c =
     (refl, all_left (λ (k : ℕ) (es : List Entry). entries c.args.n k es c.args.self.now.bytes.now c.args.self.now.at) c.args.count c.new-entries.ensures.items)
 
-pub returns-in-err-entry : goal.returns-in-err-entry
-returns-in-err-entry c =
+pub returns-in_err-entry : goal.returns-in_err-entry
+returns-in_err-entry c =
     let n = c.args.n in
-    let told = c.in-err-entry.ensures in
+    let told = c.in_err-entry.ensures in
     let here = re_read (λ (before : List Entry) (s : List ℕ). entry n before s c.loop.self.at) c.deref.ensures.value c.loop.invariant.0 told.told in
     record {
       same = told.same ∙ c.loop.invariant.0;
-      told = refused_by _ _ _ _ c.from-residual.ensures.1 (c.loop.invariant.1 ∙ entries_fail n c.args.count c.loop.counter (vec_items c.loop.entries) c.args.self.now.bytes.now c.loop.self.at _ c.loop-test.true here);
+      told = refused_by _ _ _ _ c.from_residual.ensures.1 (c.loop.invariant.1 ∙ entries_fail n c.args.count c.loop.counter (vec_items c.loop.entries) c.args.self.now.bytes.now c.loop.self.at _ c.loop-test.true here);
     }
 
-pub returns-in-err-push : goal.returns-in-err-push
-returns-in-err-push c = record {
-  same = c.in-ok-entry.ensures.same ∙ c.loop.invariant.0;
-  told = no_memory _ _ _ c.from-residual-in-err-push.ensures.1;
+pub returns-in_err-push : goal.returns-in_err-push
+returns-in_err-push c = record {
+  same = c.in_ok-entry.ensures.same ∙ c.loop.invariant.0;
+  told = no_memory _ _ _ c.from_residual-in_err-push.ensures.1;
 }
 
 pub loop-preserved : goal.loop-preserved
 loop-preserved c =
     let n = c.args.n in
     let file = c.args.self.now.bytes.now in
-    let told = c.in-ok-entry.ensures in
+    let told = c.in_ok-entry.ensures in
     let here = re_read (λ (before : List Entry) (s : List ℕ). entry n before s c.loop.self.at) c.deref.ensures.value c.loop.invariant.0 told.told in (
       told.same ∙ c.loop.invariant.0,
       c.loop.invariant.1
-          ∙ entries_more n c.args.count c.loop.counter (vec_items c.loop.entries) file c.loop.self.at c.in-ok-entry.entry _ c.loop-test.true here
-          ∙ ap (λ (xs : List Entry). entries n (c.args.count - (c.loop.counter + 1)) xs file c.entry.new.self.at) (sym c.in-ok-push.ensures.items),
+          ∙ entries_more n c.args.count c.loop.counter (vec_items c.loop.entries) file c.loop.self.at c.in_ok-entry.entry _ c.loop-test.true here
+          ∙ ap (λ (xs : List Entry). entries n (c.args.count - (c.loop.counter + 1)) xs file c.entry.new.self.at) (sym c.in_ok-push.ensures.items),
     )
 
 pub returns : goal.returns

@@ -13,16 +13,16 @@ pub loop-i-init : goal.loop-i-init
 loop-i-init g c =
     (refl, refl, all_left (λ (k : ℕ) (ns : List ℕ). list (alone (rule_of c.args.allowed)) (not_a_size c.args.cell c.args.side) k ns c.args.self.now.bytes.now c.args.self.now.at) g.T.Length.count refl)
 
-pub returns-in-err-list : goal.returns-in-err-list
-returns-in-err-list g c =
+pub returns-in_err-list : goal.returns-in_err-list
+returns-in_err-list g c =
     let rule = rule_of c.args.allowed in
     let cell = c.args.cell in
     let side = c.args.side in
-    let told = c.in-err-list.ensures in
+    let told = c.in_err-list.ensures in
     let here = re_read (λ (_ : ℕ) (s : List ℕ). length_number_at rule cell side s c.loop-i.self.at) {before = 0} refl c.loop-i.invariant.0 told.told in
     record {
       same = told.same ∙ c.loop-i.invariant.0;
-      told = exit_with _ _ _ _ c.from-residual.ensures.1 (c.loop-i.invariant.2 ∙ list_fails (alone rule) (not_a_size cell side) g.T.Length.count c.loop-i.i (take c.loop-i.i c.loop-i.list) c.args.self.now.bytes.now c.loop-i.self.at _ (omega (arith, c.loop-i-test.true, c.count-i-end.ensures)) here);
+      told = exit_with _ _ _ _ c.from_residual.ensures.1 (c.loop-i.invariant.2 ∙ list_fails (alone rule) (not_a_size cell side) g.T.Length.count c.loop-i.i (take c.loop-i.i c.loop-i.list) c.args.self.now.bytes.now c.loop-i.self.at _ (omega (arith, c.loop-i-test.true, c.count-i-end.ensures)) here);
     }
 
 pub loop-i-preserved : goal.loop-i-preserved
@@ -32,9 +32,9 @@ loop-i-preserved g c =
     let side = c.args.side in
     let i = c.loop-i.i in
     let ns = c.loop-i.list in
-    let v = c.in-ok-list.field-0 in
+    let v = c.in_ok-list.field-0 in
     let file = c.args.self.now.bytes.now in
-    let told = c.in-ok-list.ensures in
+    let told = c.in_ok-list.ensures in
     let here = re_read (λ (_ : ℕ) (s : List ℕ). length_number_at rule cell side s c.loop-i.self.at) {before = 0} refl c.loop-i.invariant.0 told.told in
     let few : g.T.Length.count ≤ 3 = ⊎_elim (λ e. omega (arith, e)) (λ e. omega (arith, e)) g.met.T.Length.counted in
     let inside : i < length ns = omega (arith, c.loop-i.invariant.1, c.loop-i-test.true, c.count-i-end.ensures) in (
@@ -42,7 +42,7 @@ loop-i-preserved g c =
       length-set ns i v ∙ c.loop-i.invariant.1,
       c.loop-i.invariant.2
           ∙ list_more (alone rule) (not_a_size cell side) g.T.Length.count i (take i ns) file c.loop-i.self.at v _ (omega (arith, c.loop-i-test.true, c.count-i-end.ensures)) here
-          ∙ ap (λ (xs : List ℕ). list (alone rule) (not_a_size cell side) (g.T.Length.count - (i + 1)) xs file c.length-number.new.self.at) (sym (take_more_set ns i v inside)),
+          ∙ ap (λ (xs : List ℕ). list (alone rule) (not_a_size cell side) (g.T.Length.count - (i + 1)) xs file c.length_number.new.self.at) (sym (take_more_set ns i v inside)),
     )
 
 pub returns : goal.returns
@@ -56,5 +56,5 @@ returns g c =
       told =
           c.loop-i.invariant.2
           ∙ list_done (alone rule) (not_a_size c.args.cell c.args.side) k c.loop-i.i (take c.loop-i.i ns) c.args.self.now.bytes.now c.loop-i.self.at (omega arith)
-          ∙ ap (λ (xs : List ℕ). done (xs, c.loop-i.self.at)) (ap (λ (m : ℕ). take m ns) e ∙ sym c.from-numbers.ensures);
+          ∙ ap (λ (xs : List ℕ). done (xs, c.loop-i.self.at)) (ap (λ (m : ℕ). take m ns) e ∙ sym c.from_numbers.ensures);
     }

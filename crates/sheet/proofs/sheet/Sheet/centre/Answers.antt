@@ -11,16 +11,16 @@ use Rattle.sheet.proofs.Same.{order_refl}
 use Rattle.sheet.proofs.TakenBack.{taken_back}
 use Rattle.sheet.proofs.sheet.Sheet.centre.Goals as goal
 
-pub returns-in-err-centre : goal.returns-in-err-centre
-returns-in-err-centre g c =
+pub returns-in_err-centre : goal.returns-in_err-centre
+returns-in_err-centre g c =
     let s = c.args.self.now in
     let a = c.args.a in
     let o = g.B.Book.order s.book in
     let old = s.group in
     let new = c.centre.new.self in
-    let f = c.in-err-centre.field-0.0 in
-    let made = c.in-err-centre.ensures in
-    exit_at (Outcome o old (centre a) o new) c.from-residual.result f c.from-residual.ensures.1
+    let f = c.in_err-centre.field-0.0 in
+    let made = c.in_err-centre.ensures in
+    exit_at (Outcome o old (centre a) o new) c.from_residual.result f c.from_residual.ensures.1
     (unfit_outcome o old (centre a) o new f
     (λ h. sym (subst (λ (n : ℕ). ◌≡◌ {A = Result (Unit {0}) SheetFault} (Err f) (centre_check n (mate_of old) a)) h.counts made.answer))
     (λ e. made.count ∙ e)
@@ -34,7 +34,7 @@ returns-in-Some g c =
     let old = s.group in
     let new = c.centre.new.self in
     let end = c.release.new.self in
-    let made = c.in-ok-centre.ensures in
+    let made = c.in_ok-centre.ensures in
     let ok = centre_ok old.count (mate_of old) a made.answer in
     let a_in : a < new.count = subst (λ (n : ℕ). a < n) (sym made.count) ok.0 in
     let judged = c.in-Some.ensures in
@@ -55,8 +55,8 @@ returns g c =
     let o = g.B.Book.order s.book in
     let old = s.group in
     let new = c.centre.new.self in
-    let made = c.in-ok-centre.ensures in
-    let judged = c.in-default.ensures in
+    let made = c.in_ok-centre.ensures in
+    let judged = c.in_default.ensures in
     done_outcome judged.theorem o old (centre a) o new
     (λ h. sym (subst (λ (n : ℕ). ◌≡◌ {A = Result (Unit {0}) SheetFault} (Ok tt) (centre_check n (mate_of old) a)) h.counts made.answer))
     (g.met.B.Book.lawful s.book)

@@ -11,17 +11,17 @@ use Rattle.sheet.proofs.Same.{order_refl}
 use Rattle.sheet.proofs.TakenBack.{taken_back}
 use Rattle.sheet.proofs.sheet.Sheet.pair.Goals as goal
 
-pub returns-in-err-pair : goal.returns-in-err-pair
-returns-in-err-pair g c =
+pub returns-in_err-pair : goal.returns-in_err-pair
+returns-in_err-pair g c =
     let s = c.args.self.now in
     let a = c.args.a in
     let b = c.args.b in
     let o = g.B.Book.order s.book in
     let old = s.group in
     let new = c.pair.new.self in
-    let f = c.in-err-pair.field-0.0 in
-    let made = c.in-err-pair.ensures in
-    exit_at (Outcome o old (pair a b) o new) c.from-residual.result f c.from-residual.ensures.1
+    let f = c.in_err-pair.field-0.0 in
+    let made = c.in_err-pair.ensures in
+    exit_at (Outcome o old (pair a b) o new) c.from_residual.result f c.from_residual.ensures.1
     (unfit_outcome o old (pair a b) o new f
     (λ h. sym (subst (λ (n : ℕ). ◌≡◌ {A = Result (Unit {0}) SheetFault} (Err f) (pair_check n (mate_of old) a b)) h.counts made.answer))
     (λ e. made.count ∙ e)
@@ -36,7 +36,7 @@ returns-in-Some g c =
     let old = s.group in
     let new = c.pair.new.self in
     let end = c.release.new.self in
-    let made = c.in-ok-pair.ensures in
+    let made = c.in_ok-pair.ensures in
     let ok = fine old.count (mate_of old) a b made.answer in
     let a_in : a < new.count = subst (λ (n : ℕ). a < n) (sym made.count) ok.a_in in
     let judged = c.in-Some.ensures in
@@ -58,8 +58,8 @@ returns g c =
     let o = g.B.Book.order s.book in
     let old = s.group in
     let new = c.pair.new.self in
-    let made = c.in-ok-pair.ensures in
-    let judged = c.in-default.ensures in
+    let made = c.in_ok-pair.ensures in
+    let judged = c.in_default.ensures in
     done_outcome judged.theorem o old (pair a b) o new
     (λ h. sym (subst (λ (n : ℕ). ◌≡◌ {A = Result (Unit {0}) SheetFault} (Ok tt) (pair_check n (mate_of old) a b)) h.counts made.answer))
     (g.met.B.Book.lawful s.book)

@@ -7,21 +7,21 @@ use Rattle.sheet.proofs.sheet.Sheet.place_anew.Goals as goal
 pub returns-in-Ok : goal.returns-in-Ok
 returns-in-Ok g c s =
     let m = sheet_of (g.B.Book.order c.args.self.now.book) c.args.self.now.group in
-    anew_placed g.T.Length.kind m c.args.widths.now c.args.heights.now c.deref-mut.result.now c.deref-mut-2.result.now c.deref-mut-3.result.now c.place.new.work c.place.new.x c.place.new.y
-    (omega (arith, ap length c.deref-mut.ensures.value, c.in-ok-work.ensures, c.count-n.ensures))
-    (omega (arith, ap length c.deref-mut-2.ensures.value, c.in-ok-x.ensures, c.count-n.ensures))
-    (omega (arith, ap length c.deref-mut-3.ensures.value, c.in-ok-y.ensures, c.count-n.ensures))
+    anew_placed g.T.Length.kind m c.args.widths.now c.args.heights.now c.deref_mut.result.now c.deref_mut-2.result.now c.deref_mut-3.result.now c.place.new.work c.place.new.x c.place.new.y
+    (omega (arith, ap length c.deref_mut.ensures.value, c.in_ok-work.ensures, c.count-n.ensures))
+    (omega (arith, ap length c.deref_mut-2.ensures.value, c.in_ok-x.ensures, c.count-n.ensures))
+    (omega (arith, ap length c.deref_mut-3.ensures.value, c.in_ok-y.ensures, c.count-n.ensures))
     _
-    (with_items_is c.in-ok-work.work c.place.new.work (omega (arith, c.place.auto.work, c.deref-mut.ensures.len)))
-    (with_items_is c.in-ok-x.x c.place.new.x (omega (arith, c.place.auto.x, c.deref-mut-2.ensures.len)))
-    (with_items_is c.in-ok-y.y c.place.new.y (omega (arith, c.place.auto.y, c.deref-mut-3.ensures.len)))
+    (with_items_is c.in_ok-work.work c.place.new.work (omega (arith, c.place.auto.work, c.deref_mut.ensures.len)))
+    (with_items_is c.in_ok-x.x c.place.new.x (omega (arith, c.place.auto.x, c.deref_mut-2.ensures.len)))
+    (with_items_is c.in_ok-y.y c.place.new.y (omega (arith, c.place.auto.y, c.deref_mut-3.ensures.len)))
     (c.in-Ok.ensures s)
 
 pub returns-in-Err : goal.returns-in-Err
 returns-in-Err g c s =
     let m = sheet_of (g.B.Book.order c.args.self.now.book) c.args.self.now.group in
-    anew_refused g.T.Length.kind m c.args.widths.now c.args.heights.now c.deref-mut.result.now c.deref-mut-2.result.now c.deref-mut-3.result.now c.place.new.work c.place.new.x c.place.new.y
-    (omega (arith, ap length c.deref-mut.ensures.value, c.in-ok-work.ensures, c.count-n.ensures))
-    (omega (arith, ap length c.deref-mut-2.ensures.value, c.in-ok-x.ensures, c.count-n.ensures))
-    (omega (arith, ap length c.deref-mut-3.ensures.value, c.in-ok-y.ensures, c.count-n.ensures))
+    anew_refused g.T.Length.kind m c.args.widths.now c.args.heights.now c.deref_mut.result.now c.deref_mut-2.result.now c.deref_mut-3.result.now c.place.new.work c.place.new.x c.place.new.y
+    (omega (arith, ap length c.deref_mut.ensures.value, c.in_ok-work.ensures, c.count-n.ensures))
+    (omega (arith, ap length c.deref_mut-2.ensures.value, c.in_ok-x.ensures, c.count-n.ensures))
+    (omega (arith, ap length c.deref_mut-3.ensures.value, c.in_ok-y.ensures, c.count-n.ensures))
     c.in-Err.fault (c.in-Err.ensures s)

@@ -10,25 +10,25 @@ use Rattle.sheet.proofs.sheet.Sheet.step.Goals as goal
 pub returns-in-Swap : goal.returns-in-Swap
 returns-in-Swap g c = record {
   sound = λ s. c.swap.ensures.sound s;
-  came = λ s. came_edit (swap c.in-Swap.a c.in-Swap.b) _ _ _ c.in-Swap.is c.answer-of.ensures (c.swap.ensures.edited s);
+  came = λ s. came_edit (swap c.in-Swap.a c.in-Swap.b) _ _ _ c.in-Swap.is c.answer_of.ensures (c.swap.ensures.edited s);
 }
 
 pub returns-in-Pair : goal.returns-in-Pair
 returns-in-Pair g c = record {
   sound = λ s. c.pair.ensures.sound s;
-  came = λ s. came_edit (pair c.in-Pair.a c.in-Pair.b) _ _ _ c.in-Pair.is c.answer-of-in-Pair.ensures (c.pair.ensures.edited s);
+  came = λ s. came_edit (pair c.in-Pair.a c.in-Pair.b) _ _ _ c.in-Pair.is c.answer_of-in-Pair.ensures (c.pair.ensures.edited s);
 }
 
 pub returns-in-Centre : goal.returns-in-Centre
 returns-in-Centre g c = record {
   sound = λ s. c.centre.ensures.sound s;
-  came = λ s. came_edit (centre c.in-Centre.a) _ _ _ c.in-Centre.is c.answer-of-in-Centre.ensures (c.centre.ensures.edited s);
+  came = λ s. came_edit (centre c.in-Centre.a) _ _ _ c.in-Centre.is c.answer_of-in-Centre.ensures (c.centre.ensures.edited s);
 }
 
 pub returns-in-Release : goal.returns-in-Release
 returns-in-Release g c = record {
   sound = λ s. c.release.ensures.sound s;
-  came = λ s. came_edit (release c.in-Release.a) _ _ _ c.in-Release.is c.answer-of-in-Release.ensures (c.release.ensures.edited s);
+  came = λ s. came_edit (release c.in-Release.a) _ _ _ c.in-Release.is c.answer_of-in-Release.ensures (c.release.ensures.edited s);
 }
 
 pub returns-in-Place : goal.returns-in-Place
@@ -37,7 +37,7 @@ returns-in-Place g c = record {
   came = λ s.
       let k = g.T.Length.kind in
       let m = sheet_of (g.B.Book.order c.args.self.now.book) c.args.self.now.group in
-      IfOk-weaker c.place-anew.result (PlacedAnew k m c.in-Place.widths.now c.in-Place.heights.now) (λ a. Came k m m c.args.step a)
+      IfOk-weaker c.place_anew.result (PlacedAnew k m c.in-Place.widths.now c.in-Place.heights.now) (λ a. Came k m m c.args.step a)
       (λ a p. subst (λ x. Came k m m x a) (sym c.in-Place.is) (a_placing p refl))
-      (c.place-anew.ensures s);
+      (c.place_anew.ensures s);
 }

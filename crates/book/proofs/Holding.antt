@@ -185,11 +185,11 @@ room_for_one n k ps w few h once =
     (omega (arith, h.parts, h.cells), omega (arith, h.cells))
 
 -- what a search of the second row finds
-pub found_stands : (k : ℕ) (ps : List Part) (w : Waiting) (found : Bool) → Holds ps w → IsAnyAnswer (λ y t. Decides t (y ≡ k)) (mid_of 0 (w.cells - 0) w.second) found → Decides found (Stands (in_row leaves ps) k)
+pub found_stands : (k : ℕ) (ps : List Part) (w : Waiting) (found : Bool) → Holds ps w → IsAnyAnswer (λ y t. eqb y k ≡ t) (mid_of 0 (w.cells - 0) w.second) found → Decides found (Stands (in_row leaves ps) k)
 found_stands k ps w found h some =
     let row : mid_of 0 (w.cells - 0) w.second ≡ in_row leaves ps = ap (λ m. take m w.second) (sub-zero w.cells) ∙ h.second in
     Decides-like found (λ r. (r.0, r.1, r.2 0)) (λ s. (s.0, s.1, λ d. get_or_default (in_row leaves ps) s.0 d 0 s.1 ∙ s.2))
-    (contains_decides eqb Decides-eqb (in_row leaves ps) k found (subst (λ xs. IsAnyAnswer (λ y t. Decides t (y ≡ k)) xs found) row some))
+    (contains_decides eqb Decides-eqb (in_row leaves ps) k found (subst (λ xs. IsAnyAnswer (λ y t. eqb y k ≡ t) xs found) row some))
 
 -- a join reads the last two parts as one
 module _ (n k : ℕ) (join : Part → Part → Part) (lays : (p q : Part) → leaves (join p q) ≡ leaves p ++ leaves q)

@@ -10,19 +10,28 @@ invariant_of-self c =
     let a = c.args.a in
     let b = c.args.b in
     let ok = cells_in s.count a b _ _ c.in_ok-within.ensures in
-    let p = c.swap.ensures.places in
-    let q = c.swap-2.ensures.places in
+    let p = c.swap.ensures.by_index in
+    let q = c.swap-2.ensures.by_index in
     let first = c.swap.new.self in
     let second = c.swap-2.new.self in
-    (s.some, (s.few, (c.swap.ensures.len ∙ s.first_long, (c.swap-2.ensures.len ∙ s.second_long, (traded_within s.first first a b p.0 p.1 p.2 s.count ok.a_in ok.b_in s.first_in, (traded_once s.first first a b p.0 p.1 p.2 s.count ok.a_in ok.b_in s.first_once, (traded_within s.second second a b q.0 q.1 q.2 s.count ok.a_in ok.b_in s.second_in, (traded_once s.second second a b q.0 q.1 q.2 s.count ok.a_in ok.b_in s.second_once, tt))))))))
+    record {
+      some = s.some;
+      few = s.few;
+      first_long = c.swap.ensures.len ∙ s.first_long;
+      second_long = c.swap-2.ensures.len ∙ s.second_long;
+      first_in = traded_within s.first first a b p.0 p.1 p.2 s.count ok.a_in ok.b_in s.first_in;
+      first_once = traded_once s.first first a b p.0 p.1 p.2 s.count ok.a_in ok.b_in s.first_once;
+      second_in = traded_within s.second second a b q.0 q.1 q.2 s.count ok.a_in ok.b_in s.second_in;
+      second_once = traded_once s.second second a b q.0 q.1 q.2 s.count ok.a_in ok.b_in s.second_once;
+    }
 
 pub returns : goal.returns
 returns c =
     let s = c.args.self.now in
     let a = c.args.a in
     let b = c.args.b in
-    let p = c.swap.ensures.places in
-    let q = c.swap-2.ensures.places in
+    let p = c.swap.ensures.by_index in
+    let q = c.swap-2.ensures.by_index in
     let first = traded s.first c.swap.new.self a b p.0 p.1 p.2 in
     let second = traded s.second c.swap-2.new.self a b q.0 q.1 q.2 in
     record { answer = c.in_ok-within.ensures; meaning = record { count = refl; each = λ x y _. simp (first x, first y, second x, second y) } }

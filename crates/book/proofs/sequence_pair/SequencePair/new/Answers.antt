@@ -45,7 +45,16 @@ invariant_of-result c =
     let q = c.in_ok-second.second in
     let one = c.in_ok-first.ensures in
     let two = c.in_ok-second.ensures in
-    (omega arith, (c.if-n-gt-MOST_CELLS.false, (one.long, (two.long, (inverse_within n first p c.if-first-n.false one, (inverse_once n first p c.if-first-n.false one, (inverse_within n second q c.if-second-n.false two, (inverse_once n second q c.if-second-n.false two, tt))))))))
+    record {
+      some = omega arith;
+      few = c.if-n-gt-MOST_CELLS.false;
+      first_long = one.long;
+      second_long = two.long;
+      first_in = inverse_within n first p c.if-first-n.false one;
+      first_once = inverse_once n first p c.if-first-n.false one;
+      second_in = inverse_within n second q c.if-second-n.false two;
+      second_once = inverse_once n second q c.if-second-n.false two;
+    }
 
 pub returns : goal.returns
 returns c =

@@ -15,9 +15,9 @@ impl Graph {
     /// as it was, where there is no weight, or `out` has not as many entries as there are nodes. It is also false where a
     /// path has more steps than there are nodes, or a sum passes the limit; `out` then has no meaning.
     pub fn heaviest<T: Length>(&self, weights: &[T], out: &mut [T]) -> bool
-        ensures found { result ≡ true → Heaviest T.Length.kind self.now (dealt kind.zero weights.now) (λ v. slice_index_or out.new v kind.zero) }
+        ensures found { result ≡ true → Heaviest T.Length.kind self.now (dealt T.kind.zero weights.now) (λ v. slice_index_or out.new v T.kind.zero) }
         ensures short { result ≡ true → Short self.now }
-        ensures finishes { 0 < length weights.now → length out.old ≡ self.now.nodes → Short self.now → Light T.Length.kind self.now (dealt kind.zero weights.now) → (result ≡ true) × Bounded T.Length.kind self.now (λ v. slice_index_or out.new v kind.zero) }
+        ensures finishes { 0 < length weights.now → length out.old ≡ self.now.nodes → Short self.now → Light T.Length.kind self.now (dealt T.kind.zero weights.now) → (result ≡ true) × Bounded T.Length.kind self.now (λ v. slice_index_or out.new v T.kind.zero) }
         ensures refused { (0 < length weights.now → length out.old ≢ self.now.nodes) → (result ≡ false) × (out.new ≡ out.old) }
     {
         if weights.len() == 0 || out.len() != self.nodes {
@@ -48,11 +48,11 @@ fn settle<T: Length>(
     requires long { length out.old ≡ graph.now.nodes }
     requires inside { v < graph.now.nodes }
     requires few { fuel ≤ most_nodes }
-    requires before { Settled T.Length.kind graph.now (dealt kind.zero weights.now) done.old (λ u. slice_index_or out.old u kind.zero) }
+    requires before { Settled T.Length.kind graph.now (dealt T.kind.zero weights.now) done.old (λ u. slice_index_or out.old u T.kind.zero) }
     ensures grows { (u : ℕ) → Has done.old u → Has done.new u }
-    ensures after { Settled T.Length.kind graph.now (dealt kind.zero weights.now) done.new (λ u. slice_index_or out.new u kind.zero) }
+    ensures after { Settled T.Length.kind graph.now (dealt T.kind.zero weights.now) done.new (λ u. slice_index_or out.new u T.kind.zero) }
     ensures reached { result ≡ true → Has done.new v }
-    ensures finishes { Light T.Length.kind graph.now (dealt kind.zero weights.now) → Reach graph.now v fuel → result ≡ true }
+    ensures finishes { Light T.Length.kind graph.now (dealt T.kind.zero weights.now) → Reach graph.now v fuel → result ≡ true }
 {
     if done.contains(v) {
         return true;

@@ -74,8 +74,8 @@ fn node_values<B: Book, T: Length>(
     requires counts { group.now.count ≡ (B.Book.order book.now).count }
     requires widths { length widths.now ≡ (B.Book.order book.now).count }
     requires values { length values.old ≡ 2 * (B.Book.order book.now).count }
-    ensures found { IfSome result (λ d. GivenNodes T.Length.kind (sheet_of (B.Book.order book.now) group.now) (λ a. get_or widths.now a kind.zero) (λ u. get_or values.new u kind.zero) d) }
-    ensures finishes { Clean (sheet_of (B.Book.order book.now) group.now) → AllSizes T.Length.kind (sheet_of (B.Book.order book.now) group.now) (λ a. get_or widths.now a kind.zero) → IsSomeAnd result (λ d. SmallAcross T.Length.kind (sheet_of (B.Book.order book.now) group.now) (2 * (B.Book.order book.now).count) (λ u. get_or values.new u kind.zero) d) }
+    ensures found { IfSome result (λ d. GivenNodes T.Length.kind (sheet_of (B.Book.order book.now) group.now) (λ a. get_or widths.now a T.kind.zero) (λ u. get_or values.new u T.kind.zero) d) }
+    ensures finishes { Clean (sheet_of (B.Book.order book.now) group.now) → AllSizes T.Length.kind (sheet_of (B.Book.order book.now) group.now) (λ a. get_or widths.now a T.kind.zero) → IsSomeAnd result (λ d. SmallAcross T.Length.kind (sheet_of (B.Book.order book.now) group.now) (2 * (B.Book.order book.now).count) (λ u. get_or values.new u T.kind.zero) d) }
 {
     let graph = sides(book, group)?;
     reach(&graph, widths, values)
@@ -85,7 +85,7 @@ fn node_values<B: Book, T: Length>(
 fn mirror_images<T: Length>(group: &Group, values: &[T], images: &mut [T])
     requires values { length values.now ≡ group.now.count }
     requires images { length images.old ≡ group.now.count }
-    ensures { (a : ℕ) → a < group.now.count → slice_index_or images.new a kind.zero ≡ mirrored (slice_index_or images.old a kind.zero) (λ b. get_or values.now b kind.zero) (mate_of group.now a) }
+    ensures { (a : ℕ) → a < group.now.count → slice_index_or images.new a T.kind.zero ≡ mirrored (slice_index_or images.old a T.kind.zero) (λ b. get_or values.now b T.kind.zero) (mate_of group.now a) }
 {
     for a in 0..group.count() {
         if let Some(mate) = group.partner(a) {
@@ -109,8 +109,8 @@ pub(crate) fn chains<B: Book, T: Length>(
     requires widths { length widths.now ≡ (B.Book.order book.now).count }
     requires work { length work.old ≡ 2 * (B.Book.order book.now).count }
     requires room { length room.old ≡ (B.Book.order book.now).count }
-    ensures found { IfSome result (λ d. GivenAcross T.Length.kind (sheet_of (B.Book.order book.now) group.now) (λ a. get_or widths.now a kind.zero) (λ a. get_or work.new a kind.zero) (λ a. get_or work.new ((B.Book.order book.now).count + a) kind.zero) d) }
-    ensures finishes { Clean (sheet_of (B.Book.order book.now) group.now) → AllSizes T.Length.kind (sheet_of (B.Book.order book.now) group.now) (λ a. get_or widths.now a kind.zero) → IsSomeAnd result (λ d. SmallAcross T.Length.kind (sheet_of (B.Book.order book.now) group.now) (B.Book.order book.now).count (λ a. get_or work.new a kind.zero) d) }
+    ensures found { IfSome result (λ d. GivenAcross T.Length.kind (sheet_of (B.Book.order book.now) group.now) (λ a. get_or widths.now a T.kind.zero) (λ a. get_or work.new a T.kind.zero) (λ a. get_or work.new ((B.Book.order book.now).count + a) T.kind.zero) d) }
+    ensures finishes { Clean (sheet_of (B.Book.order book.now) group.now) → AllSizes T.Length.kind (sheet_of (B.Book.order book.now) group.now) (λ a. get_or widths.now a T.kind.zero) → IsSomeAnd result (λ d. SmallAcross T.Length.kind (sheet_of (B.Book.order book.now) group.now) (B.Book.order book.now).count (λ a. get_or work.new a T.kind.zero) d) }
 {
     let n = book.count();
     let longest = node_values(book, group, widths, work)?;

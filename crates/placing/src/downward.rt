@@ -61,7 +61,7 @@ pub(crate) fn bottoms<B: Book, T: Length>(
     requires counts { group.now.count ≡ (B.Book.order book.now).count }
     requires heights { length heights.now ≡ (B.Book.order book.now).count }
     requires y { length y.old ≡ (B.Book.order book.now).count }
-    ensures { MatchOption result (Clean (sheet_of (B.Book.order book.now) group.now) → AllSizes T.Length.kind (sheet_of (B.Book.order book.now) group.now) (λ a. slice_index_or heights.now a kind.zero) → ⊥) (λ d. GivenDown T.Length.kind (sheet_of (B.Book.order book.now) group.now) (λ a. slice_index_or heights.now a kind.zero) (λ a. slice_index_or y.new a kind.zero) d) }
+    ensures { MatchOption result (Clean (sheet_of (B.Book.order book.now) group.now) → AllSizes T.Length.kind (sheet_of (B.Book.order book.now) group.now) (λ a. slice_index_or heights.now a T.kind.zero) → ⊥) (λ d. GivenDown T.Length.kind (sheet_of (B.Book.order book.now) group.now) (λ a. slice_index_or heights.now a T.kind.zero) (λ a. slice_index_or y.new a T.kind.zero) d) }
 {
     let graph = falls(book, group)?;
     reach(&graph, heights, y)

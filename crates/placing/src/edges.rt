@@ -35,7 +35,7 @@ fn rounds_up<B: Book>(book: &B, group: &Group, a: usize) -> bool
 
 /// The left edge of a cell with so much before it and after it; `None` only where there is no room.
 fn left_edge<T: Length>(span: T, width: T, before: T, after: T, up: bool) -> Option<T>
-    ensures { MatchOption result (Room T.Length.kind span width before after → ⊥) (λ x. x ≡ (if up then kind.upper (middle T.Length.kind span width before after) else kind.lower (middle T.Length.kind span width before after))) }
+    ensures { MatchOption result (Room T.Length.kind span width before after → ⊥) (λ x. x ≡ (if up then T.kind.upper (middle T.Length.kind span width before after) else T.kind.lower (middle T.Length.kind span width before after))) }
 {
     let latest = span.minus(width)?.minus(after)?;
     let twice = before.plus(latest)?;
@@ -59,7 +59,7 @@ fn edge_of<B: Book, T: Length>(
     requires cell { a < (B.Book.order book.now).count }
     requires widths { length widths.now ≡ (B.Book.order book.now).count }
     requires work { length work.now ≡ 2 * (B.Book.order book.now).count }
-    ensures { MatchOption result (Room T.Length.kind span (slice_index_or widths.now a kind.zero) (slice_index_or work.now a kind.zero) (slice_index_or work.now ((B.Book.order book.now).count + a) kind.zero) → ⊥) (λ x. EdgeAt T.Length.kind (sheet_of (B.Book.order book.now) group.now) a (middle T.Length.kind span (slice_index_or widths.now a kind.zero) (slice_index_or work.now a kind.zero) (slice_index_or work.now ((B.Book.order book.now).count + a) kind.zero)) x) }
+    ensures { MatchOption result (Room T.Length.kind span (slice_index_or widths.now a T.kind.zero) (slice_index_or work.now a T.kind.zero) (slice_index_or work.now ((B.Book.order book.now).count + a) T.kind.zero) → ⊥) (λ x. EdgeAt T.Length.kind (sheet_of (B.Book.order book.now) group.now) a (middle T.Length.kind span (slice_index_or widths.now a T.kind.zero) (slice_index_or work.now a T.kind.zero) (slice_index_or work.now ((B.Book.order book.now).count + a) T.kind.zero)) x) }
 {
     let after = work[book.count() + a];
     left_edge(span, widths[a], work[a], after, rounds_up(book, group, a))
@@ -77,7 +77,7 @@ pub(crate) fn left_edges<B: Book, T: Length>(
     requires widths { length widths.now ≡ (B.Book.order book.now).count }
     requires work { length work.now ≡ 2 * (B.Book.order book.now).count }
     requires x { length x.old ≡ (B.Book.order book.now).count }
-    ensures { MatchOption result (RoomForAll T.Length.kind (sheet_of (B.Book.order book.now) group.now) (λ a. get_or widths.now a kind.zero) (λ a. get_or work.now a kind.zero) (λ a. get_or work.now ((B.Book.order book.now).count + a) kind.zero) half → ⊥) (λ _. LeftEdges T.Length.kind (sheet_of (B.Book.order book.now) group.now) (λ a. get_or widths.now a kind.zero) (λ a. get_or work.now a kind.zero) (λ a. get_or work.now ((B.Book.order book.now).count + a) kind.zero) (λ a. get_or x.new a kind.zero) half) }
+    ensures { MatchOption result (RoomForAll T.Length.kind (sheet_of (B.Book.order book.now) group.now) (λ a. get_or widths.now a T.kind.zero) (λ a. get_or work.now a T.kind.zero) (λ a. get_or work.now ((B.Book.order book.now).count + a) T.kind.zero) half → ⊥) (λ _. LeftEdges T.Length.kind (sheet_of (B.Book.order book.now) group.now) (λ a. get_or widths.now a T.kind.zero) (λ a. get_or work.now a T.kind.zero) (λ a. get_or work.now ((B.Book.order book.now).count + a) T.kind.zero) (λ a. get_or x.new a T.kind.zero) half) }
 {
     let n = book.count();
     let span = half.plus(half)?;

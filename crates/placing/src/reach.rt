@@ -12,7 +12,7 @@ use length::Length;
 /// Where there are fewer sizes than starts, they are dealt out again from the first on.
 fn farthest_end<T: Length>(starts: &[T], sizes: &[T]) -> Option<T>
     requires { 0 < length sizes.now }
-    ensures { MatchOption result ((u : ℕ) × (u < length starts.now) × (sum_limit < kind.measure (slice_index_or starts.now u kind.zero) + kind.measure (dealt kind.zero sizes.now u))) (λ t. IsJoin T.Length.kind (λ u. u < length starts.now) (λ u. kind.plus (slice_index_or starts.now u kind.zero) (dealt kind.zero sizes.now u)) t) }
+    ensures { MatchOption result ((u : ℕ) × (u < length starts.now) × (sum_limit < T.kind.measure (slice_index_or starts.now u T.kind.zero) + T.kind.measure (dealt T.kind.zero sizes.now u))) (λ t. IsJoin T.Length.kind (λ u. u < length starts.now) (λ u. T.kind.plus (slice_index_or starts.now u T.kind.zero) (dealt T.kind.zero sizes.now u)) t) }
 {
     let mut end = T::zero();
     for u in 0..starts.len() {
@@ -26,8 +26,8 @@ fn farthest_end<T: Length>(starts: &[T], sizes: &[T]) -> Option<T>
 pub(crate) fn reach<T: Length>(graph: &Graph, weights: &[T], values: &mut [T]) -> Option<T>
     requires weighted { 0 < length weights.now }
     requires long { length values.old ≡ graph.now.nodes }
-    ensures found { IfSome result (λ d. Reached T.Length.kind graph.now (dealt kind.zero weights.now) (λ u. get_or values.new u kind.zero) d) }
-    ensures finishes { Short graph.now → Light T.Length.kind graph.now (dealt kind.zero weights.now) → IsSomeAnd result (λ _. Bounded T.Length.kind graph.now (λ u. get_or values.new u kind.zero)) }
+    ensures found { IfSome result (λ d. Reached T.Length.kind graph.now (dealt T.kind.zero weights.now) (λ u. get_or values.new u T.kind.zero) d) }
+    ensures finishes { Short graph.now → Light T.Length.kind graph.now (dealt T.kind.zero weights.now) → IsSomeAnd result (λ _. Bounded T.Length.kind graph.now (λ u. get_or values.new u T.kind.zero)) }
 {
     if !graph.heaviest(weights, values) {
         return None;

@@ -36,7 +36,7 @@ pub(crate) fn give<B: Book, T: Length>(
     requires work { length work.old ≡ 2 * (B.Book.order book.now).count }
     requires x { length x.old ≡ (B.Book.order book.now).count }
     requires y { length y.old ≡ (B.Book.order book.now).count }
-    ensures { MatchOption result (Clean (sheet_of (B.Book.order book.now) group.now) → Sizes T.Length.kind (sheet_of (B.Book.order book.now) group.now) (λ a. slice_index_or widths.now a kind.zero) (λ a. slice_index_or heights.now a kind.zero) → ⊥) (λ e. Given T.Length.kind (sheet_of (B.Book.order book.now) group.now) (λ a. slice_index_or widths.now a kind.zero) (λ a. slice_index_or heights.now a kind.zero) (λ a. slice_index_or work.new a kind.zero) (λ a. slice_index_or work.new ((B.Book.order book.now).count + a) kind.zero) (λ a. slice_index_or x.new a kind.zero) (λ a. slice_index_or y.new a kind.zero) e.half_span e.depth) }
+    ensures { MatchOption result (Clean (sheet_of (B.Book.order book.now) group.now) → Sizes T.Length.kind (sheet_of (B.Book.order book.now) group.now) (λ a. slice_index_or widths.now a T.kind.zero) (λ a. slice_index_or heights.now a T.kind.zero) → ⊥) (λ e. Given T.Length.kind (sheet_of (B.Book.order book.now) group.now) (λ a. slice_index_or widths.now a T.kind.zero) (λ a. slice_index_or heights.now a T.kind.zero) (λ a. slice_index_or work.new a T.kind.zero) (λ a. slice_index_or work.new ((B.Book.order book.now).count + a) T.kind.zero) (λ a. slice_index_or x.new a T.kind.zero) (λ a. slice_index_or y.new a T.kind.zero) e.half_span e.depth) }
 {
     let depth = bottoms(book, group, heights, y)?;
     let longest = chains(book, group, widths, work, x)?;

@@ -5,8 +5,8 @@ use Rattle.graph.specs.Heaviest.{dealt}
 use Rattle.graph.proofs.Begins.{Underway}
 use Rattle.graph.proofs.paths.+settle.Given as goal
 
-abbrev pub decreases_settle : goal.decreases-settle
-decreases_settle g l = l.fuel
+abbrev pub decreases-settle : goal.decreases-settle
+decreases-settle g l = l.fuel
 
 abbrev pub invariant-loop-u : goal.invariant-loop-u
 invariant-loop-u g l =

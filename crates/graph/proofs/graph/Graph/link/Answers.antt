@@ -9,4 +9,8 @@ invariant_of-self c =
     let v = c.args.v in
     let t = c.insert.new.self in
     let inside : v < length g.next = omega (arith, g.few, g.long, c.if-v-self.true) in
-    (g.few, (length-set g.next v t ∙ g.long, (linked_within g.next g.nodes v c.args.u t g.within inside c.if-u-self.true c.insert.ensures, tt)))
+    record {
+      few = g.few;
+      long = length-set g.next v t ∙ g.long;
+      within = linked_within g.next g.nodes v c.args.u t g.within inside c.if-u-self.true c.insert.ensures;
+    }

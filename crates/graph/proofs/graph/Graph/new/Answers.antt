@@ -4,7 +4,12 @@ use Rattle.graph.proofs.Links.{none_next}
 use Rattle.graph.proofs.graph.Graph.new.Goals as goal
 
 pub invariant_of-result : goal.invariant_of-result
-invariant_of-result c = (c.if-nodes-gt-MOST_NODES.false, (refl, (λ v u h. absurd (none_next most_nodes v u h), tt)))
+invariant_of-result c =
+    record {
+      few = c.if-nodes-gt-MOST_NODES.false;
+      long = refl;
+      within = λ v u h. absurd (none_next most_nodes v u h);
+    }
 
 pub returns : goal.returns
 returns c = (c.if-nodes-gt-MOST_NODES.false, record { count = refl; nothing = λ v u h. none_next most_nodes v u h.1 })

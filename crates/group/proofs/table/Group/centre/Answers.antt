@@ -25,7 +25,12 @@ invariant_of-self c =
     let free = sym c.partner.ensures ∙ not_some c.partner.result c.if-is_some.ensures in
     let here = written_here p a inside (Some a) in
     let other = λ (x : ℕ) (u v : x ≡ a → ⊥). written_elsewhere p a inside (Some a) x u in
-    (few, (simp length-set long, (joined_inside s.count p (set p a (Some a)) a a here here other c.if-a-self.false c.if-a-self.false s.inside, (joined_returned s.count p (set p a (Some a)) a a here here other free free s.returned, tt))))
+    record {
+      few = few;
+      long = simp length-set long;
+      inside = joined_inside s.count p (set p a (Some a)) a a here here other c.if-a-self.false c.if-a-self.false s.inside;
+      returned = joined_returned s.count p (set p a (Some a)) a a here here other free free s.returned;
+    }
 
 pub returns : goal.returns
 returns c =

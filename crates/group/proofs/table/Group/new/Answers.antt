@@ -6,7 +6,12 @@ use Rattle.group.proofs.table.Group.new.Goals as goal
 pub invariant_of-result : goal.invariant_of-result
 invariant_of-result g c =
     let laws = g.met.B.Book.lawful c.args.book.now in
-    (omega (arith, laws.few, c.count.ensures), (refl, (λ x y e. absurd (none_not_some (all_free most_cells x) e), (λ x y e. absurd (none_not_some (all_free most_cells x) e), tt))))
+    record {
+      few = omega (arith, laws.few, c.count.ensures);
+      long = refl;
+      inside = λ x y e. absurd (none_not_some (all_free most_cells x) e);
+      returned = λ x y e. absurd (none_not_some (all_free most_cells x) e);
+    }
 
 pub returns : goal.returns
 returns g c = record { count = c.count.ensures; mates = λ x. all_free most_cells x }

@@ -30,7 +30,12 @@ invariant_of-self c =
     let one = first_here p a b a_in b_in (Some b) (Some a) ok.differ in
     let two = second_here p a b a_in b_in (Some b) (Some a) in
     let other = two_elsewhere p a b a_in b_in (Some b) (Some a) in
-    (few, (simp length-set long, (joined_inside s.count p q a b one two other ok.a_in ok.b_in s.inside, (joined_returned s.count p q a b one two other (not_some (at p a) (sym ok.a_free)) (not_some (at p b) (sym ok.b_free)) s.returned, tt))))
+    record {
+      few = few;
+      long = simp length-set long;
+      inside = joined_inside s.count p q a b one two other ok.a_in ok.b_in s.inside;
+      returned = joined_returned s.count p q a b one two other (not_some (at p a) (sym ok.a_free)) (not_some (at p b) (sym ok.b_free)) s.returned;
+    }
 
 pub returns : goal.returns
 returns c =

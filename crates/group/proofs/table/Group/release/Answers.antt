@@ -44,7 +44,12 @@ invariant_of-self c =
     let one = both_freed p a m a_in m-in in
     let two = second_here p a m a_in m-in None None in
     let other = two_elsewhere p a m a_in m-in None None in
-    (few, (simp length-set long, (freed_inside s.count p q a m told one two other s.inside, (freed_returned s.count p q a m told one two other s.returned, tt))))
+    record {
+      few = few;
+      long = simp length-set long;
+      inside = freed_inside s.count p q a m told one two other s.inside;
+      returned = freed_returned s.count p q a m told one two other s.returned;
+    }
 
 pub returns : goal.returns
 returns c =

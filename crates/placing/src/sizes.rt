@@ -50,7 +50,7 @@ pub(crate) fn check_lists(
 
 /// The length that a list has for `cell`; zero past its end.
 fn of_cell<T: Length>(list: &[T], cell: usize) -> T
-    ensures { result ≡ entries kind list.now cell }
+    ensures { result ≡ entries T.kind list.now cell }
 {
     if cell < list.len() {
         list[cell]
@@ -68,14 +68,14 @@ fn alike<T: Length>(a: T, b: T) -> bool
 
 /// Whether `a` and `b` are equally wide and equally high.
 fn agree<T: Length>(widths: &[T], heights: &[T], a: usize, b: usize) -> bool
-    ensures { let w = entries kind widths.now in let h = entries kind heights.now in Decides result (Agree w h a b) }
+    ensures { let w = entries T.kind widths.now in let h = entries T.kind heights.now in Decides result (Agree w h a b) }
 {
     alike(of_cell(widths, a), of_cell(widths, b)) && alike(of_cell(heights, a), of_cell(heights, b))
 }
 
 /// Checks that the width and the height of each of `n` cells are sizes.
 fn check_each<T: Length>(n: usize, widths: &[T], heights: &[T]) -> Result<(), SheetFault>
-    ensures { let w = entries kind widths.now in let h = entries kind heights.now in MatchResult result (λ _. Each n (Sized kind w h)) (λ f. (mate : ℕ → Option ℕ) → Unlawful kind mate n w h f) }
+    ensures { let w = entries T.kind widths.now in let h = entries T.kind heights.now in MatchResult result (λ _. Each n (Sized T.kind w h)) (λ f. (mate : ℕ → Option ℕ) → Unlawful T.kind mate n w h f) }
 {
     for cell in 0..n {
         if !of_cell(widths, cell).is_size() {
@@ -96,7 +96,7 @@ fn check_each<T: Length>(n: usize, widths: &[T], heights: &[T]) -> Result<(), Sh
 
 /// Checks that mates agree, where all are sizes.
 fn check_pairs<T: Length>(group: &Group, widths: &[T], heights: &[T]) -> Result<(), SheetFault>
-    ensures { let g = group.now in let w = entries kind widths.now in let h = entries kind heights.now in MatchResult result (λ _. Each g.count (Matched (mate_of g) w h)) (λ f. Each g.count (Sized kind w h) → Unlawful kind (mate_of g) g.count w h f) }
+    ensures { let g = group.now in let w = entries T.kind widths.now in let h = entries T.kind heights.now in MatchResult result (λ _. Each g.count (Matched (mate_of g) w h)) (λ f. Each g.count (Sized T.kind w h) → Unlawful T.kind (mate_of g) g.count w h f) }
 {
     for cell in 0..group.count() {
         let Some(mate) = group.partner(cell) else {
@@ -118,7 +118,7 @@ fn is_centred(group: &Group, cell: usize) -> bool
 
 /// Checks that centred widths are even, where mates agree and all are sizes.
 fn check_centres<T: Length>(group: &Group, widths: &[T]) -> Result<(), SheetFault>
-    ensures { let g = group.now in let w = entries kind widths.now in MatchResult result (λ _. Each g.count (Balanced kind (mate_of g) w)) (λ f. (h : ℕ → T) → Each g.count (Sized kind w h) → Each g.count (Matched (mate_of g) w h) → Unlawful kind (mate_of g) g.count w h f) }
+    ensures { let g = group.now in let w = entries T.kind widths.now in MatchResult result (λ _. Each g.count (Balanced T.kind (mate_of g) w)) (λ f. (h : ℕ → T) → Each g.count (Sized T.kind w h) → Each g.count (Matched (mate_of g) w h) → Unlawful T.kind (mate_of g) g.count w h f) }
 {
     for cell in 0..group.count() {
         if is_centred(group, cell) && !of_cell(widths, cell).is_even() {
@@ -135,7 +135,7 @@ pub(crate) fn check_sizes<T: Length>(
     widths: &[T],
     heights: &[T],
 ) -> Result<(), SheetFault>
-    ensures { let g = group.now in let w = entries kind widths.now in let h = entries kind heights.now in MatchResult result (λ _. Fit kind g w h) (λ f. Unlawful kind (mate_of g) g.count w h f) }
+    ensures { let g = group.now in let w = entries T.kind widths.now in let h = entries T.kind heights.now in MatchResult result (λ _. Fit T.kind g w h) (λ f. Unlawful T.kind (mate_of g) g.count w h f) }
 {
     check_each(group.count(), widths, heights)?;
     check_pairs(group, widths, heights)?;

@@ -6,7 +6,7 @@ use Rattle.placing.proofs.LawfulSheet.{lawful_sheet}
 use Rattle.placing.proofs.PlacingOutcomes.{misfitting_outcome, unlawful_outcome, placed_outcome}
 use Rattle.group.specs.Group.{sheet_of}
 use Rattle.placing.proofs.placed.place.Goals as goal
-use Rattle.placing.proofs.placed.place.Goals.{then-count-n+in-default, else-count-n}
+use Rattle.placing.proofs.placed.place.Goals.{then-count-n+in_default, else-count-n}
 
 pub returns-in_err-check_lists : goal.returns-in_err-check_lists
 returns-in_err-check_lists g c counts clean =
@@ -42,6 +42,6 @@ pub returns : goal.returns
 returns g c counts clean =
     let o = g.B.Book.order c.args.book.now in
     absurd (elim c.if-count-n.branch [
-      | then-count-n+in-default w ↦ w.in_default.ensures clean (c.in_ok-check_sizes.ensures o (sym counts))
+      | then-count-n+in_default w ↦ w.in_default.ensures clean (c.in_ok-check_sizes.ensures o (sym counts))
       | else-count-n w ↦ w.if-count-n.false (c.count.ensures ∙ sym counts ∙ sym c.count-n.ensures)
     ])

@@ -1,5 +1,6 @@
 -- Answers that decide: by an equation, by a count that differs, and cell by cell.
 use Rattle.std.proofs.Common.{◌≡◌, ℕ, ◌<◌, ◌≤◌, Bool, true, false, cond, Ok, Err, Decides, sym, refl, ◌∙◌, arith}
+use Rattle.std.proofs.lemmas.Bool.Decides.{Decides-like}
 use Rattle.refusal.specs.declared.fault.SheetFault.{SheetFault}
 use Rattle.book.specs.declared.relation.Relation.{Relation}
 use Rattle.book.specs.Order.{Order, Apart}
@@ -14,16 +15,12 @@ decides_no not = ((λ (e : false ≡ true). absurd (let z : ◌≡◌ {A = ℕ} 
 pub decides_yes : {P : Type 0} → P → Decides true P
 decides_yes p = (λ _. p, λ _. refl)
 
-pub decides_by : {P X : Type 0} (r : Bool) (x y : X) → cond r (x ≡ y) (x ≡ y → ⊥) → (x ≡ y → P) → (P → x ≡ y) → Decides r P
-decides_by true x y told make read = decides_yes (make told)
-decides_by false x y told make read = decides_no (λ p. told (read p))
-
 -- two books that both tell agree where their answers are the same
-pub agree_by : (o q : Order) (a b : ℕ) (here there : Relation) (r : Bool) → Ok here ≡ asked o a b → Ok there ≡ asked q a b → cond r (there ≡ here) (there ≡ here → ⊥) → Decides r (AgreeOn o q a b)
+pub agree_by : (o q : Order) (a b : ℕ) (here there : Relation) (r : Bool) → Ok here ≡ asked o a b → Ok there ≡ asked q a b → Decides r (there ≡ here) → Decides r (AgreeOn o q a b)
 agree_by o q a b here there r one two told =
     let h = answered o a b here one in
     let t = answered q a b there two in
-    decides_by r there here told (λ e _ _. sym t.value ∙ e ∙ h.value) (λ agree. t.value ∙ agree h.apart t.apart ∙ sym h.value)
+    Decides-like r (λ e _ _. sym t.value ∙ e ∙ h.value) (λ agree. t.value ∙ agree h.apart t.apart ∙ sym h.value) told
 
 -- a book that does not tell has nothing to disagree about
 pub agree_first_silent : (o q : Order) (a b : ℕ) (f : SheetFault) → Err f ≡ asked o a b → Decides true (AgreeOn o q a b)

@@ -1,5 +1,8 @@
-use Rattle.std.proofs.Common.{◌≡◌, ℕ, true, false, sym, refl, ◌∙◌, arith}
-use Rattle.sheet.proofs.Telling.{decides_no, decides_by}
+use Rattle.std.proofs.Common.{◌≡◌, ℕ, true, false, sym, refl, ◌∙◌, arith, rules}
+use Rattle.std.proofs.lemmas.Bool.Decides.{Decides-like}
+use Rattle.book.proofs.Cells.{same_decides}
+use Rattle.sheet.specs.contracts.state.State.{the_type}
+use Rattle.sheet.proofs.Telling.{decides_no}
 use Rattle.sheet.proofs.sheet.Sheet.same_cell.Goals as goal
 
 pub returns-then-not-same_row : goal.returns-then-not-same_row
@@ -8,6 +11,7 @@ returns-then-not-same_row g c =
 
 pub returns : goal.returns
 returns g c =
-    decides_by c.eq.result c.state.result c.state-2.result c.eq.ensures
+    Decides-like c.eq.result
     (λ e. record { states = sym c.state.ensures ∙ e ∙ c.state-2.ensures; each = c.if-not-same_row.ensures.0 refl })
     (λ like. c.state.ensures ∙ like.states ∙ sym c.state-2.ensures)
+    (same_decides the_type (search rules) _ _ _ c.eq.ensures)

@@ -83,7 +83,7 @@ impl<'a> Reader<'a> {
         n: usize,
     ) -> Result<Columns<T>, ReadError>
         ensures same { self.new.bytes.now ≡ self.old.bytes.now }
-        ensures told { TookAs (columns_of T-as-Length.numbers) (file.columns (rule_of allowed) T-as-Length.count n file.no_columns self.old.bytes.now self.old.at) result self.new.at }
+        ensures told { TookAs (columns_of T.Length.numbers) (file.columns (rule_of allowed) T.Length.count n file.no_columns self.old.bytes.now self.old.at) result self.new.at }
     {
         let mut firsts = Vec::new(heap);
         let mut seconds = Vec::new(heap);

@@ -166,7 +166,7 @@ module _ {V : Type 0} (k : Kind V) (w h : List V) (m : Meaning) (ws : AllSizes k
   unplaced_came work x y f blank (unlawful _ (odd_centre _ _ _ _ _ _) _) = came.odd_centre
 
   placed_came : {a : Answer V} → PlacedAnew k m w h a → PlacingCame a
-  placed_came (placed _ _ _) = came.placed
+  placed_came (placed _ _) = came.placed
   placed_came (unplaced {work} {x} {y} {f} blank placing) = unplaced_came work x y f blank placing
 
 module _ {V : Type 0} (k : Kind V) (n : ℕ) (w h : Bor (List V)) (ws : AllSizes k n w.now) (hs : AllSizes k n h.now) where

@@ -52,6 +52,18 @@ pub data Ran {V : Type 0} (k : Kind V) : Meaning → List (Step V) → List (Ans
   end : {m : Meaning} → Ran k m [] [] m
   next : {m p q : Meaning} {s : Step V} {a : Answer V} {steps : List (Step V)} {answers : List (Answer V)} → Came k m p s a → Ran k p steps answers q → Ran k m (s ∷ steps) (a ∷ answers) q
 
+-- the lists of a placing are as long as n cells ask for
+pub record Filled {V : Type 0} (n : ℕ) (c : Coordinates V) : Type 0 where
+  pub work_length : length (vec_items c.work) ≡ 2 * n
+  pub x_length : length (vec_items c.x) ≡ n
+  pub y_length : length (vec_items c.y) ≡ n
+
+-- an answer that tells of a placing has lists as long as that
+abbrev pub IsFilled : {V : Type 0} → ℕ → Answer V → Type 0
+IsFilled n answer.Edited = Unit {0}
+IsFilled n (answer.Refused _) = Unit {0}
+IsFilled n (answer.Placed c) = Filled n c
+
 -- The whole promise: a run over a sheet made from a book of order o, whatever its steps. It starts from the book's
 -- relations and an empty group, and every step, in turn, comes to what is promised of it.
 pub record WholeRun {V : Type 0} (k : Kind V) (o : Order) (steps : List (Step V)) (answers : List (Answer V)) : Type 0 where

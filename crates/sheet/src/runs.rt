@@ -1,8 +1,8 @@
 //! Whole runs: a list of steps on a sheet, and what each came to.
-ghost use Rattle.std.specs.Prelude.{◌≡◌, length, IfOk};
+ghost use Rattle.std.specs.Prelude.{◌≡◌, length, IfOk, All};
 ghost use Rattle.group.specs.Group.{sheet_of};
 ghost use Rattle.sheet.specs.Sheets.{Sound};
-ghost use Rattle.sheet.specs.Runs.{Came, PlacedAnew, WholeRun, told};
+ghost use Rattle.sheet.specs.Runs.{Came, PlacedAnew, IsFilled, WholeRun, told};
 
 use crate::sheet::Sheet;
 use crate::steps::{Answer, Coordinates, Step};
@@ -40,7 +40,8 @@ impl<B: Book> Sheet<B> {
         widths: &[T],
         heights: &[T],
     ) -> Result<Answer<T>, AllocError>
-        ensures { Sound (B.Book.order self.now.book) self.now.group → IfOk result (λ a. PlacedAnew T.Length.kind (sheet_of (B.Book.order self.now.book) self.now.group) widths.now heights.now a) }
+        ensures filled { IfOk result (λ a. IsFilled (B.Book.order self.now.book).count a) }
+        ensures anew { Sound (B.Book.order self.now.book) self.now.group → IfOk result (λ a. PlacedAnew T.Length.kind (sheet_of (B.Book.order self.now.book) self.now.group) widths.now heights.now a) }
     {
         let n = self.count();
         let mut work = zeros(heap, n + n)?;
@@ -55,6 +56,7 @@ impl<B: Book> Sheet<B> {
     /// Does one step.
     fn step<T: Length>(&mut self, heap: Global, step: Step<T>) -> Result<Answer<T>, AllocError>
         ensures sound { Sound (B.Book.order self.old.book) self.old.group → Sound (B.Book.order self.new.book) self.new.group }
+        ensures filled { IfOk result (λ a. IsFilled (B.Book.order self.old.book).count a) }
         ensures came { Sound (B.Book.order self.old.book) self.old.group → IfOk result (λ a. Came T.Length.kind (sheet_of (B.Book.order self.old.book) self.old.group) (sheet_of (B.Book.order self.new.book) self.new.group) step.entry a) }
     {
         match step {
@@ -75,7 +77,8 @@ pub fn run<B: Book + Drop, T: Length>(
     book: B,
     steps: &[Step<T>],
 ) -> Result<Vec<Answer<T>>, AllocError>
-    ensures { IfOk result (λ answers. WholeRun T.Length.kind (B.Book.order book) steps.now answers.items) }
+    ensures whole { IfOk result (λ answers. WholeRun T.Length.kind (B.Book.order book) steps.now answers.items) }
+    ensures filled { IfOk result (λ answers. All (IsFilled (B.Book.order book).count) answers.items) }
 {
     let mut sheet = Sheet::new(book);
     let mut answers = Vec::new(heap);

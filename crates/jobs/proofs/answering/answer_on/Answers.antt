@@ -11,10 +11,10 @@ use Rattle.jobs.proofs.answering.answer_on.Goals as goal
 
 pub tell-requires : goal.tell-requires
 tell-requires g c =
-    let run = c.in_ok-answers.ensures in
+    let filled = c.in_ok-answers.ensures.filled in
     record {
       lawful = c.requires.lawful;
-      filled = subst (AllFilled c.args.job.now.count) (sym c.deref-2.ensures.value) (subst (λ (n : ℕ). AllFilled n (vec_items c.in_ok-answers.answers)) c.requires.counted (run_fills run));
+      filled = subst (AllFilled c.args.job.now.count) (sym c.deref-2.ensures.value) (subst (λ (n : ℕ). AllFilled n (vec_items c.in_ok-answers.answers)) c.requires.counted (run_fills _ _ filled));
     }
 
 pub returns : goal.returns
@@ -25,7 +25,7 @@ returns g c =
     let steps = vec_items c.in_ok-steps.steps in
     let answers = vec_items c.in_ok-answers.answers in
     let asks = c.in_ok-steps.ensures in
-    let ran = subst (λ (ss : List (Step g.row.T.Denot)). WholeRun g.T.Length.kind o ss answers) c.deref.ensures.value c.in_ok-answers.ensures in
+    let ran = subst (λ (ss : List (Step g.row.T.Denot)). WholeRun g.T.Length.kind o ss answers) c.deref.ensures.value c.in_ok-answers.ensures.whole in
     IfOk-weaker c.tell.result _ _
     (λ v e. record {
       steps = steps;

@@ -1,6 +1,7 @@
 -- Every placing of a run fills lists of as many left edges and bottoms as there are cells.
 use Rattle.std.proofs.Common.{ℕ, List, [], ◌∷◌, All}
-use Rattle.std.proofs.lemmas.List.Elements.{AllByRecursion, recursion_from_All}
+use Rattle.std.specs.List.{AllByRecursion}
+use Rattle.std.proofs.lemmas.List.Elements.{recursion_from_All}
 use Rattle.sheet.specs.declared.steps.Answer.{Answer}
 use Rattle.sheet.specs.declared.steps.Answer.TheVariants as answer
 use Rattle.sheet.specs.Runs.{IsFilled}

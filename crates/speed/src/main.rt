@@ -84,7 +84,7 @@ fn report_with<B: Book + Drop>(
     match lengths {
         "one" => report::<B, Plain>(rt, book, n, count),
         "three" => report::<B, PerProcess>(rt, book, n, count),
-        _ => Err(USAGE.into()),
+        _ => Err(anyhow!(USAGE)),
     }
 }
 
@@ -92,12 +92,12 @@ fn run(rt: &HostRuntime) -> anyhow::Result<()> {
     let heap = rt.alloc();
     let words: Vec<String> = env::args(rt)?.skip(1).collect(heap)?;
     let [count, cells, book, lengths] = words.as_slice() else {
-        return Err(USAGE.into());
+        return Err(anyhow!(USAGE));
     };
     let count = count.parse::<u32>()?;
     let n = cells.parse::<usize>()?;
     if n != 8 && n != 16 && n != 32 && n != 64 {
-        return Err(USAGE.into());
+        return Err(anyhow!(USAGE));
     }
     match book.as_str() {
         "pair" => {
@@ -108,7 +108,7 @@ fn run(rt: &HostRuntime) -> anyhow::Result<()> {
             let expression = start::expression(heap, n)?;
             report_with(rt, Slicing::new(n, &expression), lengths, n, count)
         }
-        _ => Err(USAGE.into()),
+        _ => Err(anyhow!(USAGE)),
     }
 }
 

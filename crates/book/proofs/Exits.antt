@@ -1,5 +1,5 @@
 -- What the exit of a `?` hands on: what is said of a result holds where it holds of the one error that comes out.
-use Rattle.std.proofs.Common.{◌≡◌, IsErrAnd, Ok, Err, Result, sym, ap, ◌∙◌, subst, MatchResult}
+use Rattle.std.proofs.Common.{◌≡◌, IsErrAnd, Err, Result, sym, ap, ◌∙◌, subst, MatchResult}
 use Rattle.std.proofs.lemmas.Result.{err_from_is_err_and}
 
 pub exit_at : {T E : Type 0} (P : Result T E → Type 0) (r : Result T E) (e : E) → IsErrAnd r (λ y. y ≡ e) → P (Err e) → P r

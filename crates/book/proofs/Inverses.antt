@@ -1,12 +1,11 @@
 -- A row and its table of places: the table is a lawful one, and places compare as the row has them.
-use Rattle.std.proofs.Common.{◌≡◌, ℕ, ◌<◌, ◌≤◌, true, false, cond, ltb, ◌≢◌, ◌⊎◌, List, length, get_or, sym, ap, ◌∙◌, subst, inl, inr, ⊎_elim, arith}
+use Rattle.std.proofs.Common.{◌≡◌, ℕ, ◌<◌, ◌≤◌, ◌⊎◌, List, length, get_or, sym, ap, ◌∙◌, subst, inl, inr, ⊎_elim, arith}
 use Rattle.std.proofs.lemmas.Bool.Decides.{nat_tests}
 use Rattle.std.proofs.lemmas.Bool.{cases_lt}
 use Rattle.book.specs.declared.relation.Relation.{Relation}
 use Rattle.book.specs.declared.relation.Relation.TheVariants.{Left, Right, Above, Below}
-use Rattle.book.specs.Order.{Order, Apart}
-use Rattle.book.specs.Rows.{Earlier, Told, left, right, above, below, Breaks, Row, Rows}
-use Rattle.book.specs.Places.{Within, Once, compared, by_places}
+use Rattle.book.specs.Rows.{Earlier, Told, left, right, above, below, Row}
+use Rattle.book.specs.Places.{Within, Once, by_places}
 use Rattle.book.specs.Sequence.{Inverse}
 use Rattle.book.proofs.Pigeonhole.{onto}
 use Rattle.book.proofs.Tables.{none_breaks}

@@ -1,5 +1,5 @@
 -- What every filling of a book checks first: the number of cells and the lengths of the lists.
-use Rattle.std.specs.Prelude.{◌≡◌, ℕ, ◌<◌, ◌≤◌}
+use Rattle.std.specs.Prelude.{ℕ, ◌<◌, ◌≤◌}
 use Rattle.book.specs.Order.{most_cells}
 
 -- a book can have n cells

@@ -1,10 +1,9 @@
 -- What the laws of an order give of left and above by themselves: neither holds of a cell and itself, neither turns
 -- round, the two exclude each other, and both are decided.
-use Rattle.std.specs.Prelude.{◌≡◌, ℕ, ◌<◌, ◌≢◌, refl}
+use Rattle.std.specs.Prelude.{◌≡◌, ℕ, ◌<◌, refl}
 use Rattle.std.proofs.Common.{sym, arith}
 use Rattle.std.proofs.Math.Decide.{ℕ_discrete, dec_lt}
-use Rattle.book.specs.declared.relation.Relation.{Relation}
-use Rattle.book.specs.declared.relation.Relation.TheVariants.{Left, Right, Above, Below}
+use Rattle.book.specs.declared.relation.Relation.TheVariants.{Left, Above}
 use Rattle.book.specs.Order.{Order, Apart, LeftOf, AboveOf, Lie, left, right, above, below, Laws}
 
 pub apart_turned : {o : Order} {a b : ℕ} → Apart o a b → Apart o b a

@@ -1,5 +1,5 @@
 -- Which fields are lawful, by the fields before them.
-use Rattle.std.specs.Prelude.{ℕ, ◌+◌, ◌-◌, Bool, true, false, cond, not, ◌&&◌, ◌||◌, List, [], ◌∷◌, Some, None, Option, ◌==◌, nat_le, nat_lt}
+use Rattle.std.specs.Prelude.{ℕ, ◌+◌, ◌-◌, Bool, true, false, cond, not, ◌&&◌, ◌||◌, List, [], ◌∷◌, ◌==◌, nat_le, nat_lt}
 use Rattle.book.specs.Order.{most_cells}
 use Rattle.length.specs.Kind.{largest_size}
 use Rattle.formats.specs.declared.fields.BookKind.{BookKind}

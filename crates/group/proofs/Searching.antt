@@ -1,5 +1,5 @@
 -- The search for the first forbidden couple: couples are cells, and what was passed over comes later.
-use Rattle.std.proofs.Common.{◌≡◌, ℕ, ◌<◌, ◌≤◌, ◌⊎◌, sym, subst, inl, inr, ⊎_elim, arith}
+use Rattle.std.proofs.Common.{◌≡◌, ℕ, ◌<◌, ◌≤◌, sym, subst, inl, inr, ⊎_elim, arith}
 use Rattle.std.proofs.lemmas.Bool.{cases_lt, cases_eq}
 use Rattle.placement.specs.Meaning.{Meaning}
 use Rattle.placement.specs.Couples.{Forbidden, First}

@@ -1,5 +1,5 @@
 -- What a group means: the mate of each cell; and the sheet that a book's order and a group make up.
-use Rattle.std.specs.Prelude.{ℕ, Some, None, Option, slice_index_or}
+use Rattle.std.specs.Prelude.{ℕ, None, Option, slice_index_or}
 use Rattle.book.specs.Order.{Order}
 use Rattle.placement.specs.Meaning.{Meaning}
 use Rattle.group.specs.declared.table.Group.{Group}

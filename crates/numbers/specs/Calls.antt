@@ -2,7 +2,7 @@
 use Rattle.std.specs.Prelude.{◌≡◌, ℕ, ◌+◌, ◌<◌, ◌≤◌, List, length, drop, Ok, Err, Result}
 use Rattle.refusal.specs.declared.fault.ByteFault.{ByteFault}
 use Rattle.refusal.specs.declared.fault.ByteFault.TheVariants.{Ends, NotShortest}
-use Rattle.numbers.specs.Number.{Got, got, short, bad, decode, encode}
+use Rattle.numbers.specs.Number.{Got, got, short, bad, decode}
 use Rattle.numbers.specs.Stored.{put}
 
 -- at place p of the file: the number and the place behind it; or the file ends, told by its length; or a form that is not

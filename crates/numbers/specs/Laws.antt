@@ -1,6 +1,6 @@
 -- The laws of numbers in files, each named by what it says.
 use Rattle.std.specs.Prelude.{◌≡◌, ℕ, ◌+◌, ◌≤◌, List, ◌++◌, length, take, drop, Ok}
-use Rattle.numbers.specs.Number.{Storable, encode, decode, got}
+use Rattle.numbers.specs.Number.{Storable, encode}
 use Rattle.numbers.specs.Stored.{Bytes, Stands, put}
 use Rattle.numbers.specs.Calls.{number_at}
 

@@ -4,7 +4,7 @@ use Rattle.book.specs.Order.{LeftOf}
 use Rattle.length.specs.Kind.{Kind, Laws}
 use Rattle.placement.specs.Meaning.{Meaning, Cell, Lawful}
 use Rattle.placement.specs.Couples.{Clean}
-use Rattle.placement.specs.Across.{Node, cell, image, Image, of_mate, of_free, node_width, Precedes, straight, mirrored}
+use Rattle.placement.specs.Across.{Node, cell, Image, of_mate, of_free, node_width, Precedes, straight, mirrored}
 use Rattle.placement.proofs.Mates.{grouped_or_free}
 use Rattle.graph.specs.declared.graph.Graph.{Graph}
 use Rattle.graph.specs.Steps.{Step, Stepless}

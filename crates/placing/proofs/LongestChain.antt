@@ -1,5 +1,5 @@
 -- The longest chain by numbers: of all numbers, the heaviest path from one with the weight of that number on top.
-use Rattle.std.proofs.Common.{◌≡◌, ℕ, ◌+◌, ◌*◌, ◌<◌, List, [], ◌∷◌, ◌++◌, sym, ap, ◌∙◌, subst, arith}
+use Rattle.std.proofs.Common.{◌≡◌, ℕ, ◌*◌, ◌<◌, List, [], ◌∷◌, ◌++◌, sym, ap, ◌∙◌, subst, arith}
 use Rattle.length.specs.Kind.{Kind, Laws}
 use Rattle.length.specs.Join.{IsJoin}
 use Rattle.length.proofs.Algebra.{zero_plus, at_most_plus_right}

@@ -3,7 +3,7 @@ use Rattle.std.proofs.Common.{◌≡◌, ℕ, ◌*◌, ◌<◌, true, false, con
 use Rattle.std.proofs.lemmas.Bool.Decides.{nat_tests}
 use Rattle.refusal.specs.declared.fault.Side.TheVariants.{Width, Height}
 use Rattle.refusal.specs.declared.fault.SheetFault.{SheetFault}
-use Rattle.refusal.specs.declared.fault.SheetFault.TheVariants.{NotASize, ListLength, PairSizesDiffer, OddCentre}
+use Rattle.refusal.specs.declared.fault.SheetFault.TheVariants.{NotASize, ListLength, OddCentre}
 use Rattle.length.specs.Kind.{Kind}
 use Rattle.placement.specs.Meaning.{Meaning, Mate}
 use Rattle.placement.specs.Placements.{Sizes}

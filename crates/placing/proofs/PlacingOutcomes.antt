@@ -1,9 +1,9 @@
 -- What a placing comes to, by the checks that it passed.
-use Rattle.std.proofs.Common.{◌≡◌, ℕ, ◌+◌, length, Ok, Err, sym, refl, subst}
+use Rattle.std.proofs.Common.{◌≡◌, ℕ, ◌+◌, Ok, Err, sym, refl, subst}
 use Rattle.refusal.specs.declared.fault.SheetFault.{SheetFault}
-use Rattle.book.specs.Order.{Order, Laws}
+use Rattle.book.specs.Order.{Order}
 use Rattle.length.specs.Kind.{Kind}
-use Rattle.placement.specs.Meaning.{Meaning, Lawful}
+use Rattle.placement.specs.Meaning.{Lawful}
 use Rattle.placement.specs.Couples.{Clean}
 use Rattle.placement.specs.Placements.{Sizes}
 use Rattle.placement.specs.Rule.{Given}
@@ -11,8 +11,8 @@ use Rattle.placement.specs.Theorems.{RulePlaces, RuleIsBest}
 use Rattle.group.specs.declared.table.Group.{Group}
 use Rattle.group.specs.Group.{sheet_of, mate_of}
 use Rattle.placing.specs.declared.values.Extent.{Extent}
-use Rattle.placing.specs.Sizes.{Lists, NoLists, Unlawful, Fit, entries}
-use Rattle.placing.specs.Placing.{Five, Fitting, Misfitting, Placed, Placing, misfitting, unlawful, placed}
+use Rattle.placing.specs.Sizes.{Unlawful, Fit, entries}
+use Rattle.placing.specs.Placing.{Five, Fitting, Misfitting, Placing, misfitting, unlawful, placed}
 
 module _ {V : Type 0} (k : Kind V) (o : Order) (g : Group) (counts : g.count ≡ o.count) (l : Five V) where
   pub misfitting_outcome : (f : SheetFault) → Misfitting g.count l f → Placing k (sheet_of o g) l l (Err f)

@@ -2,7 +2,7 @@
 use Rattle.std.proofs.Common.{◌≡◌, ℕ, ◌+◌, ◌*◌, sym, ap, ◌∙◌, subst, arith}
 use Rattle.length.specs.Kind.{Kind}
 use Rattle.placement.specs.Meaning.{Meaning, Cell, Lawful}
-use Rattle.placement.specs.Across.{Node, cell, Image, of_mate, of_free, In}
+use Rattle.placement.specs.Across.{Node, Image, of_mate, of_free, In}
 use Rattle.placement.proofs.Images.{image_is_node}
 use Rattle.placing.specs.Values.{GivenAcross, GivenNodes, SmallAcross}
 use Rattle.placing.proofs.NodeCodes.{code, low_is_cell, node_of_code, code_below}

@@ -1,5 +1,5 @@
 -- The register: for each case of each fault, the refusal that it comes to.
-use Rattle.std.specs.Prelude.{◌≡◌, ℕ, cond, ◌==◌, nat_le}
+use Rattle.std.specs.Prelude.{ℕ, cond, ◌==◌, nat_le}
 use Rattle.refusal.specs.declared.fault.Side.{Side}
 use Rattle.refusal.specs.declared.fault.Side.TheVariants.{Width, Height}
 use Rattle.refusal.specs.declared.fault.Layer.{Layer}

@@ -1,13 +1,12 @@
 -- A placing in lists made for it: the lists are as long as it asks for, and the answer has them as they were filled.
-use Rattle.std.proofs.Common.{◌≡◌, ℕ, ◌+◌, ◌*◌, List, length, Ok, Err, vec_items, sym, refl, ap, ◌∙◌, subst, arith}
+use Rattle.std.proofs.Common.{◌≡◌, ◌+◌, List, length, Ok, Err, vec_items, sym, refl, subst, arith}
 use Rattle.refusal.specs.declared.fault.SheetFault.{SheetFault}
 use Rattle.length.specs.Kind.{Kind}
 use Rattle.placement.specs.Meaning.{Meaning}
-use Rattle.placing.specs.declared.values.Extent.{Extent}
 use Rattle.placing.specs.Placing.{Five, five, Placing, misfitting, unlawful}
 use Rattle.sheet.specs.declared.steps.Answer.TheVariants as answer
 use Rattle.sheet.specs.declared.steps.Coordinates.{Coordinates}
-use Rattle.sheet.specs.Runs.{Blank, filled, PlacedAnew, placed, unplaced}
+use Rattle.sheet.specs.Runs.{Blank, PlacedAnew, placed, unplaced}
 
 -- a refused placing changed no list
 refused_same : {V : Type 0} {k : Kind V} {m : Meaning} {l r : Five V} {f : SheetFault} → Placing k m l r (Err f) → Placing k m l l (Err f)

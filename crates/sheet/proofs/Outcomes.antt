@@ -1,17 +1,17 @@
 -- What an edit comes to, by what the search for a forbidden couple found in the sheet as the edit left it.
-use Rattle.std.proofs.Common.{◌≡◌, ℕ, ◌<◌, Some, None, Ok, Err, Result, sym, refl, ap, ◌∙◌, subst}
+use Rattle.std.proofs.Common.{◌≡◌, ℕ, Ok, Err}
 use Rattle.refusal.specs.declared.fault.SheetFault.{SheetFault}
 use Rattle.refusal.specs.declared.fault.SheetFault.TheVariants.{Unplaceable}
 use Rattle.book.specs.Order.{Order, Laws}
-use Rattle.placement.specs.Meaning.{Meaning, Cell, Mate, Lawful}
-use Rattle.placement.specs.Couples.{Clean, First, Forbidden}
+use Rattle.placement.specs.Meaning.{Meaning, Lawful}
+use Rattle.placement.specs.Couples.{Clean, First}
 use Rattle.placement.specs.Placements.{Placeable}
 use Rattle.placement.specs.Theorems.{CleanExactlyPlaceable}
 use Rattle.group.specs.declared.table.Group.{Group}
-use Rattle.group.specs.Group.{sheet_of, mate_of}
+use Rattle.group.specs.Group.{sheet_of}
 use Rattle.placing.proofs.LawfulSheet.{lawful_sheet}
 use Rattle.sheet.specs.Sheets.{SameSheet, Sound}
-use Rattle.sheet.specs.Edits.{Edit, Edited, unfit, unplaceable, done, after, checked, Outcome}
+use Rattle.sheet.specs.Edits.{Edit, unfit, unplaceable, done, after, checked, Outcome}
 use Rattle.sheet.proofs.Same.{same_refl, same_sym, lawful_back, clean_back, first_back}
 
 module _ (theorem : CleanExactlyPlaceable) where

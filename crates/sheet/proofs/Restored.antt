@@ -1,8 +1,8 @@
 -- Taking back a pairing or a centring: the mates are as they were; and freeing a cell forbids no couple.
-use Rattle.std.proofs.Common.{◌≡◌, ℕ, Bool, true, false, cond, eqb, ◌≢◌, ◌⊎◌, is_some, Some, None, Option, sym, refl, ap, ◌∙◌, inl, inr, ⊎_elim, arith}
+use Rattle.std.proofs.Common.{◌≡◌, ℕ, Bool, true, false, cond, eqb, is_some, Some, None, Option, sym, refl, ap, ◌∙◌, ⊎_elim, arith}
 use Rattle.std.proofs.lemmas.Bool.Decides.{nat_tests, eqb_tells}
-use Rattle.placement.specs.Meaning.{Meaning, Mate}
-use Rattle.placement.specs.Couples.{Forbidden, Clean}
+use Rattle.placement.specs.Meaning.{Meaning}
+use Rattle.placement.specs.Couples.{Clean}
 use Rattle.group.specs.Edits.{Mates, paired, centred, freed, names, grouped}
 use Rattle.sheet.specs.Edits.{after, release}
 

@@ -1,5 +1,5 @@
 -- What holds of a sheet holds of every sheet that means the same.
-use Rattle.std.proofs.Common.{◌≡◌, ℕ, ◌<◌, ◌⊎◌, sym, refl, ap, ◌∙◌, subst, inl, inr, arith}
+use Rattle.std.proofs.Common.{ℕ, sym, refl, ap, ◌∙◌, inl, inr, arith}
 use Rattle.book.specs.Order.{Order, Apart, LeftOf, AboveOf, Lie, left, right, above, below, Laws, SameOrder, opposite}
 use Rattle.placement.specs.Meaning.{Meaning, Cell, Mate, Lawful}
 use Rattle.placement.specs.Couples.{Forbidden, Clean, First}

@@ -1,5 +1,5 @@
 -- The checks of a swap: which answer each state of the two cells comes to, and that the swap back is never refused.
-use Rattle.std.proofs.Common.{◌≡◌, ℕ, ◌<◌, Bool, true, false, cond, eqb, ltb, ◌≢◌, Ok, Err, Result, sym, ap, ◌∙◌, subst, arith, MatchResult}
+use Rattle.std.proofs.Common.{◌≡◌, ℕ, true, cond, eqb, ltb, ◌≢◌, Ok, Err, Result, sym, ap, ◌∙◌, arith, MatchResult}
 use Rattle.std.proofs.lemmas.Bool.Decides.{nat_tests}
 use Rattle.std.proofs.lemmas.Result.{MatchResult-at_ok}
 use Rattle.refusal.specs.declared.fault.SheetFault.{SheetFault}

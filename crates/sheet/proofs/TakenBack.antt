@@ -1,5 +1,5 @@
 -- A release right after a pairing or a centring is not refused, and gives back the mates of before.
-use Rattle.std.proofs.Common.{◌≡◌, ℕ, ◌<◌, true, false, is_some, Some, None, Ok, Err, Result, sym, ap, ◌∙◌, subst, MatchResult}
+use Rattle.std.proofs.Common.{◌≡◌, ℕ, ◌<◌, is_some, Some, Ok, Result, sym, ap, ◌∙◌, MatchResult}
 use Rattle.std.proofs.lemmas.Result.{MatchResult-at_ok}
 use Rattle.refusal.specs.declared.fault.SheetFault.{SheetFault}
 use Rattle.group.specs.Edits.{Mates, freed, release_check}

@@ -1,9 +1,9 @@
 -- Answers that decide: by an equation, by a count that differs, and cell by cell.
-use Rattle.std.proofs.Common.{◌≡◌, ℕ, ◌<◌, ◌≤◌, Bool, true, false, cond, Ok, Err, Decides, sym, refl, ◌∙◌, arith}
+use Rattle.std.proofs.Common.{◌≡◌, ℕ, ◌<◌, Bool, true, false, Ok, Err, Decides, sym, refl, ◌∙◌, arith}
 use Rattle.std.proofs.lemmas.Bool.Decides.{Decides-like}
 use Rattle.refusal.specs.declared.fault.SheetFault.{SheetFault}
 use Rattle.book.specs.declared.relation.Relation.{Relation}
-use Rattle.book.specs.Order.{Order, Apart}
+use Rattle.book.specs.Order.{Order}
 use Rattle.book.specs.Calls.{asked}
 use Rattle.book.proofs.Cells.{answered, refused_not_apart}
 use Rattle.placement.specs.Meaning.{Meaning}

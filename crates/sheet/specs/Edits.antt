@@ -1,5 +1,5 @@
 -- The edits of a sheet: what each would leave, its checks, and what it comes to.
-use Rattle.std.specs.Prelude.{◌≡◌, ℕ, cond, None, Ok, Err, Result, MatchResult, ◌==◌}
+use Rattle.std.specs.Prelude.{◌≡◌, ℕ, cond, Ok, Err, Result, MatchResult, ◌==◌}
 use Rattle.refusal.specs.declared.fault.SheetFault.{SheetFault}
 use Rattle.refusal.specs.declared.fault.SheetFault.TheVariants.{SameCell, Unplaceable}
 use Rattle.book.specs.Order.{Order, swapped}
@@ -7,7 +7,7 @@ use Rattle.book.specs.Calls.{of_cells}
 use Rattle.placement.specs.Meaning.{Meaning}
 use Rattle.placement.specs.Couples.{First}
 use Rattle.placement.specs.Placements.{Placeable}
-use Rattle.group.specs.Edits.{Mates, nobody, paired, centred, freed, pair_check, centre_check, release_check}
+use Rattle.group.specs.Edits.{nobody, paired, centred, freed, pair_check, centre_check, release_check}
 use Rattle.group.specs.declared.table.Group.{Group}
 use Rattle.group.specs.Group.{sheet_of}
 use Rattle.sheet.specs.Sheets.{SameSheet, Sound}

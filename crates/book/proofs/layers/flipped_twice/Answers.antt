@@ -1,4 +1,4 @@
-use Rattle.std.proofs.Common.{◌≡◌, sym, ap, ◌∙◌, subst}
+use Rattle.std.proofs.Common.{sym, ap, ◌∙◌, subst}
 use Rattle.book.specs.Order.{SameOrder}
 use Rattle.book.specs.Turns.{turned, flip}
 use Rattle.book.specs.Turned.{turned_back, flip_turn}

@@ -1,5 +1,5 @@
-use Rattle.std.proofs.Common.{◌<◌, ◌⊎◌, refl, inl, inr, ⊎_elim, arith}
-use Rattle.book.proofs.Tables.{Table, table_none, table_more, first_break, table_whole}
+use Rattle.std.proofs.Common.{◌<◌, refl, inl, inr, arith}
+use Rattle.book.proofs.Tables.{table_none, table_more, first_break, table_whole}
 use Rattle.book.proofs.sequence_book.places_of.Goals as goal
 use Rattle.book.proofs.sequence_book.places_of.Goals.{then-cell-n-via-then-cell-n, then-cell-n-via-else-cell-n+then-places-cell-ne-NOWHERE}
 

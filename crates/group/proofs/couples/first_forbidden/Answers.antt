@@ -1,4 +1,4 @@
-use Rattle.std.proofs.Common.{◌≡◌, ℕ, ◌<◌, ◌≤◌, ◌⊎◌, sym, refl, ◌∙◌, subst, inl, inr, ⊎_elim, arith, below_more}
+use Rattle.std.proofs.Common.{ℕ, refl, arith, below_more}
 use Rattle.placement.specs.Couples.{Forbidden}
 use Rattle.group.specs.Group.{sheet_of}
 use Rattle.group.proofs.Searching.{forbidden_inside, first_found}

@@ -1,1 +1,0 @@
-use Rattle.group.proofs.couples.forbidden.Goals as goal

@@ -1,4 +1,4 @@
-use Rattle.std.proofs.Common.{◌≡◌, true, false, sym}
+use Rattle.std.proofs.Common.{sym}
 use Rattle.std.proofs.lemmas.Bool.{both_ways}
 use Rattle.length.specs.Kind.{Kind, Laws}
 use Rattle.length.specs.Theorems.{HalvesOrdered}

@@ -1,5 +1,4 @@
-use Rattle.std.proofs.Common.{◌≡◌, ◌+◌, ◌<◌, ap, ◌∙◌, arith}
-use Rattle.length.specs.Kind.{sum_limit}
+use Rattle.std.proofs.Common.{ap, arith}
 use Rattle.length.proofs.Algebra.{halves_meet_lem}
 use Rattle.length.proofs.Answered.{cases_map}
 use Rattle.length.proofs.theorems.halves_meet.Goals as goal

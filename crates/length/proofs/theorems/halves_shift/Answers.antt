@@ -1,5 +1,4 @@
-use Rattle.std.proofs.Common.{◌≡◌, ap, arith, rules}
-use Rattle.length.specs.Theorems.{HalvesShift}
+use Rattle.std.proofs.Common.{ap, rules}
 use Rattle.length.proofs.Algebra.{lower_shift, upper_shift, lower_at_most_upper}
 use Rattle.length.proofs.theorems.halves_shift.Goals as goal
 

@@ -1,4 +1,4 @@
-use Rattle.std.proofs.Common.{◌≡◌, ap, arith}
+use Rattle.std.proofs.Common.{ap, arith}
 use Rattle.length.proofs.Algebra.{join_plus}
 use Rattle.length.proofs.Answered.{cases_map}
 use Rattle.length.proofs.theorems.join_distributes.Goals as goal

@@ -1,5 +1,5 @@
 -- Each refusal by its check; the placement by the theorems about the rule; and a clean sheet comes to no other end.
-use Rattle.std.proofs.Common.{◌≡◌, ℕ, sym, refl, ◌∙◌, subst}
+use Rattle.std.proofs.Common.{ℕ, sym, refl, ◌∙◌, subst}
 use Rattle.book.proofs.Exits.{exit_at}
 use Rattle.placing.specs.Placing.{five, Fitting, Misfitting, Placing}
 use Rattle.placing.proofs.LawfulSheet.{lawful_sheet}

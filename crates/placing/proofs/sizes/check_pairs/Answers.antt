@@ -1,5 +1,5 @@
 -- The first cell that differs from its mate is the lower of the two; past it every cell agrees with its mate.
-use Rattle.std.proofs.Common.{◌≡◌, ℕ, sym, ◌∙◌, subst, arith, below_more}
+use Rattle.std.proofs.Common.{ℕ, sym, ◌∙◌, subst, arith, below_more}
 use Rattle.std.proofs.lemmas.Bool.Decides.{not_from_Decides}
 use Rattle.group.specs.Group.{mate_of}
 use Rattle.group.proofs.Tables.{same_some}

@@ -1,7 +1,7 @@
 use Rattle.std.proofs.Common.{rules}
 use Rattle.book.specs.contracts.relation.Relation.{the_type}
 use Rattle.book.proofs.Cells.{same_decides}
-use Rattle.sheet.proofs.Telling.{agree_by, agree_first_silent, agree_second_silent}
+use Rattle.sheet.proofs.Telling.{agree_by, agree_first_silent}
 use Rattle.sheet.proofs.likeness.same_relation.Goals as goal
 
 pub returns-in_default : goal.returns-in_default

@@ -1,9 +1,7 @@
-use Rattle.std.proofs.Common.{◌≡◌, ℕ, List, [], length, take, vec_items, All, sym, refl, ap, ◌∙◌, subst, arith}
+use Rattle.std.proofs.Common.{ℕ, [], vec_items, All, sym, refl, ◌∙◌, subst}
 use Rattle.std.proofs.lemmas.List.Elements.{All-push, All-nil}
 use Rattle.group.specs.Group.{sheet_of}
-use Rattle.sheet.specs.Sheets.{SameSheet}
-use Rattle.sheet.specs.Edits.{fresh}
-use Rattle.sheet.specs.Runs.{Ran, end, WholeRun, IsFilled}
+use Rattle.sheet.specs.Runs.{Ran, end, IsFilled}
 use Rattle.sheet.proofs.Running.{ran_next, ran_all, came_count}
 use Rattle.sheet.proofs.runs.run.Goals as goal
 
@@ -28,7 +26,7 @@ loop-step-preserved g c =
       ran = ran_next c.args.steps.now c.loop-step.step-index c.step-item.result c.in_ok-answer.answer (vec_items c.loop-step.answers) (vec_items c.push.new.self) c.loop-step-test.true c.step-item.is c.in_ok-push.ensures.items before.ran came;
       counts = came_count came ∙ before.counts;
       filled = subst (All (IsFilled n)) (sym c.in_ok-push.ensures.items)
-      (All-push (IsFilled n) (vec_items c.loop-step.answers) c.in_ok-answer.answer before.filled (subst (λ (k : ℕ). IsFilled k c.in_ok-answer.answer) before.counts told.filled));
+          (All-push (IsFilled n) (vec_items c.loop-step.answers) c.in_ok-answer.answer before.filled (subst (λ (k : ℕ). IsFilled k c.in_ok-answer.answer) before.counts told.filled));
     }
 
 pub returns : goal.returns

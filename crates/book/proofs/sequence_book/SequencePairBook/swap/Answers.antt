@@ -1,5 +1,5 @@
 -- Both tables have the two cells' places exchanged, so they stay lawful, and every relation has the two names exchanged.
-use Rattle.std.proofs.Common.{◌≡◌, ◌<◌, refl, ◌∙◌, arith}
+use Rattle.std.proofs.Common.{refl, ◌∙◌}
 use Rattle.book.proofs.Trade.{traded, traded_within, traded_once}
 use Rattle.book.proofs.Cells.{cells_in}
 use Rattle.book.proofs.sequence_book.SequencePairBook.swap.Goals as goal

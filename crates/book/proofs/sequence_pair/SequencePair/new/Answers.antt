@@ -1,9 +1,6 @@
 -- Each refusal by the test or the row that caused it; the book by its two rows turned round.
-use Rattle.std.proofs.Common.{ℕ, List, length, sym, refl, ap, subst, arith}
-use Rattle.refusal.specs.declared.fault.FieldFault.TheVariants as field
-use Rattle.refusal.specs.declared.fault.SheetFault.{SheetFault}
+use Rattle.std.proofs.Common.{sym, refl, subst, arith}
 use Rattle.refusal.specs.declared.fault.SheetFault.TheVariants as sheet
-use Rattle.book.specs.Counts.{Countable}
 use Rattle.book.specs.Rows.{NoRows, bad_count, first_length, second_length, first_breaks, second_breaks}
 use Rattle.book.proofs.Exits.{exit_with}
 use Rattle.book.proofs.Inverses.{inverse_row, inverse_within, inverse_once, told_by_places}

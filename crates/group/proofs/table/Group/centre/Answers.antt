@@ -1,6 +1,6 @@
-use Rattle.std.proofs.Common.{◌≡◌, ℕ, ◌<◌, Bool, true, false, List, length, set, is_some, Some, None, Option, sym, refl, ap, ◌∙◌, arith, length-set}
+use Rattle.std.proofs.Common.{◌≡◌, ℕ, ◌<◌, length, set, is_some, Some, sym, refl, ap, ◌∙◌, arith, length-set}
 use Rattle.group.specs.Group.{mate_of}
-use Rattle.group.proofs.Tables.{at, not_some, written_here, written_elsewhere, joined_inside, joined_returned, means_centred}
+use Rattle.group.proofs.Tables.{not_some, written_here, written_elsewhere, joined_inside, joined_returned, means_centred}
 use Rattle.group.proofs.Checks.{centre_outside, centre_grouped, centre_fine}
 use Rattle.group.proofs.table.Group.centre.Goals as goal
 

@@ -1,4 +1,4 @@
-use Rattle.std.proofs.Common.{◌≡◌, Bool, true, false, is_some, sym, ap, ◌∙◌}
+use Rattle.std.proofs.Common.{is_some, sym, ap, ◌∙◌}
 use Rattle.group.specs.Group.{mate_of}
 use Rattle.group.proofs.Checks.{pair_first_outside, pair_second_outside, pair_same, pair_first_grouped, pair_second_grouped, pair_fine}
 use Rattle.group.proofs.table.Group.check_pair.Goals as goal

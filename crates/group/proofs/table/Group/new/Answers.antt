@@ -1,4 +1,4 @@
-use Rattle.std.proofs.Common.{◌≡◌, refl, arith}
+use Rattle.std.proofs.Common.{refl, arith}
 use Rattle.book.specs.Order.{most_cells}
 use Rattle.group.proofs.Tables.{all_free, none_not_some}
 use Rattle.group.proofs.table.Group.new.Goals as goal

@@ -1,4 +1,4 @@
-use Rattle.std.proofs.Common.{◌≡◌, ℕ, ◌<◌, Bool, true, false, List, length, set, is_some, Some, None, Option, sym, refl, ap, ◌∙◌, arith, length-set}
+use Rattle.std.proofs.Common.{◌<◌, length, set, Some, sym, refl, arith, length-set}
 use Rattle.std.proofs.lemmas.Result.{err_from_is_err_and, MatchResult-from_err}
 use Rattle.group.specs.Group.{mate_of}
 use Rattle.group.proofs.Tables.{at, not_some, first_here, second_here, two_elsewhere, joined_inside, joined_returned, means_paired}

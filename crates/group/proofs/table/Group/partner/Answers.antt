@@ -1,4 +1,4 @@
-use Rattle.std.proofs.Common.{◌≡◌, get_or, Some, None, Option, sym, arith}
+use Rattle.std.proofs.Common.{sym}
 use Rattle.group.proofs.Tables.{free_outside}
 use Rattle.group.proofs.table.Group.partner.Goals as goal
 

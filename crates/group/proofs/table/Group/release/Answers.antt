@@ -1,4 +1,4 @@
-use Rattle.std.proofs.Common.{◌≡◌, ℕ, ◌<◌, Bool, true, false, List, length, set, is_some, Some, None, Option, sym, refl, ap, ◌∙◌, arith, length-set}
+use Rattle.std.proofs.Common.{◌≡◌, ◌<◌, length, set, is_some, Some, None, sym, refl, ap, arith, length-set}
 use Rattle.group.specs.Group.{mate_of}
 use Rattle.group.proofs.Tables.{at, mate_inside, second_here, two_elsewhere, both_freed, freed_inside, freed_returned, means_freed}
 use Rattle.group.proofs.Checks.{release_outside, release_free, release_fine}

@@ -1,4 +1,4 @@
-use Rattle.std.proofs.Common.{◌≡◌, ℕ, ◌<◌, Ok, Err, Result, sym, refl, ap, ◌∙◌, subst}
+use Rattle.std.proofs.Common.{◌≡◌, ℕ, ◌<◌, Ok, Err, Result, sym, ◌∙◌, subst}
 use Rattle.refusal.specs.declared.fault.SheetFault.{SheetFault}
 use Rattle.group.specs.Group.{mate_of}
 use Rattle.group.specs.Edits.{centred, centre_check}

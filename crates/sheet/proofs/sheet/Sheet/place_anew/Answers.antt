@@ -1,4 +1,4 @@
-use Rattle.std.proofs.Common.{◌≡◌, length, ap, arith}
+use Rattle.std.proofs.Common.{length, ap, arith}
 use Rattle.std.proofs.lemmas.List.{with_items_is}
 use Rattle.group.specs.Group.{sheet_of}
 use Rattle.sheet.proofs.Anew.{anew_placed, anew_refused}

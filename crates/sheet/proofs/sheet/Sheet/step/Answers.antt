@@ -1,5 +1,5 @@
 -- Each edit keeps its own promise; a placing leaves the sheet alone.
-use Rattle.std.proofs.Common.{◌≡◌, sym, refl, subst}
+use Rattle.std.proofs.Common.{sym, refl, subst}
 use Rattle.std.proofs.lemmas.Result.{IfOk-weaker}
 use Rattle.sheet.specs.Edits.{swap, pair, centre, release}
 use Rattle.group.specs.Group.{sheet_of}

@@ -1,4 +1,4 @@
-use Rattle.std.proofs.Common.{◌≡◌, ℕ, Ok, Err, Result, sym, refl, ap, ◌∙◌, subst}
+use Rattle.std.proofs.Common.{◌≡◌, ℕ, Ok, Err, Result, sym, refl, ◌∙◌, subst}
 use Rattle.refusal.specs.declared.fault.SheetFault.{SheetFault}
 use Rattle.refusal.specs.declared.fault.SheetFault.TheVariants.{SameCell}
 use Rattle.book.specs.Calls.{of_cells}

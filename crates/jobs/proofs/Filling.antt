@@ -5,7 +5,7 @@ use Rattle.std.proofs.lemmas.List.Elements.{recursion_from_All}
 use Rattle.sheet.specs.declared.steps.Answer.{Answer}
 use Rattle.sheet.specs.declared.steps.Answer.TheVariants as answer
 use Rattle.sheet.specs.Runs.{IsFilled}
-use Rattle.jobs.specs.Answers.{Filled, AllFilled}
+use Rattle.jobs.specs.Answers.{AllFilled}
 
 each_fills : {V : Type 0} (n : ℕ) (answers : List (Answer V)) → AllByRecursion (IsFilled n) answers → AllFilled n answers
 each_fills n [] all = tt

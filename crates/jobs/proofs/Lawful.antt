@@ -1,14 +1,13 @@
 -- What a lawful job's counts and lists are, and that its placement is lawful.
-use Rattle.std.proofs.Common.{◌≡◌, ℕ, suc, ◌-◌, ◌*◌, ◌<◌, Bool, true, false, cond, ◌&&◌, eqb, List, [], ◌∷◌, map, length, get_or, Ok, Err, vec_items, sym, refl, ap, ◌∙◌, subst, arith}
+use Rattle.std.proofs.Common.{◌≡◌, ℕ, suc, ◌-◌, ◌*◌, ◌<◌, Bool, true, false, cond, ◌&&◌, eqb, List, [], ◌∷◌, map, length, get_or, Ok, vec_items, refl, ap, ◌∙◌, arith}
 use lib.ListN.{length-map}
 use Rattle.std.proofs.lemmas.Bool.Decides.{nat_tests}
-use Rattle.refusal.specs.declared.fault.SheetFault.{SheetFault}
 use Rattle.numbers.specs.Stored.{Bytes}
 use Rattle.formats.specs.declared.job.Job.{Job}
 use Rattle.formats.specs.Held.{job_fields}
 use Rattle.formats.specs.Rules.{is_cell_count, is_processes}
 use Rattle.formats.specs.Files.{OrderFields, rows, expression, JobFields, PlacementFields}
-use Rattle.formats.specs.Writing.{both, pass, counts_check, lists_check, order_check, sizes_check, entries_check, columns_check, length_check, job_check, placement_check, are_long, each_of}
+use Rattle.formats.specs.Writing.{counts_check, lists_check, order_check, columns_check, length_check, job_check, placement_check, are_long, each_of}
 use Rattle.formats.proofs.Checks.{both_parts, both_from, passed, pass_from, counted, count_passes}
 
 pub record Checked (j : JobFields) : Type 0 where

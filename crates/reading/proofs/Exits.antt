@@ -1,5 +1,5 @@
 -- What a call that reads hands on by a `?`.
-use Rattle.std.proofs.Common.{◌≡◌, IsErrAnd, Ok, Err, Result, sym, ap, ◌∙◌, subst, MatchResult}
+use Rattle.std.proofs.Common.{◌≡◌, IsErrAnd, Err, Result, MatchResult}
 use Rattle.refusal.specs.declared.fault.FieldFault.{FieldFault}
 use Rattle.reading.specs.declared.error.ReadError.{ReadError}
 use Rattle.reading.specs.declared.error.ReadError.TheVariants.{Refused, Memory}

@@ -1,5 +1,5 @@
 -- The laws of the two formats, each named by what it says.
-use Rattle.std.specs.Prelude.{◌≡◌, ℕ, ◌⊎◌, List, [], ◌∷◌, length, Ok, Err, Result, ◌≢◌}
+use Rattle.std.specs.Prelude.{◌≡◌, ℕ, ◌⊎◌, List, length, Ok, Err, Result, ◌≢◌}
 use Rattle.refusal.specs.declared.fault.FieldFault.{FieldFault}
 use Rattle.numbers.specs.Number.{EachStorable}
 use Rattle.numbers.specs.Stored.{Bytes}

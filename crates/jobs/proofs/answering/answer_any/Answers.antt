@@ -1,9 +1,8 @@
-use Rattle.std.proofs.Common.{◌≡◌, List, Ok, vec_items, sym, refl, ap, ◌∙◌, subst}
+use Rattle.std.proofs.Common.{◌≡◌, Ok, vec_items, sym, refl, subst}
 use Rattle.std.proofs.lemmas.Result.{IfOk-weaker}
 use Rattle.length.specs.declared.Plain.{Plain}
 use Rattle.length.specs.declared.PerProcess.{PerProcess}
 use Rattle.length.specs.Kinds.{plain_numbers, process_numbers}
-use Rattle.formats.specs.Held.{job_fields}
 use Rattle.formats.specs.Writing.{job_check}
 use Rattle.reading.specs.declared.job.AnyJob.{AnyJob}
 use Rattle.reading.specs.Held.{any_job}

@@ -1,7 +1,7 @@
-use Rattle.std.proofs.Common.{◌≡◌, ℕ, List, Ok, vec_items, sym, ap, ◌∙◌, subst}
+use Rattle.std.proofs.Common.{◌≡◌, ℕ, List, Ok, vec_items, ap, subst}
 use Rattle.book.specs.Rows.{NoRows}
 use Rattle.book.specs.Slicing.{NoExpression}
-use Rattle.formats.specs.Files.{OrderFields, rows, expression}
+use Rattle.formats.specs.Files.{OrderFields}
 use Rattle.formats.specs.Writing.{lists_check, order_check}
 use Rattle.formats.specs.Held.{order_fields, job_fields}
 use Rattle.formats.proofs.LawfulOrders.{rows_never_refused, expression_never_refused_lem}

@@ -1,7 +1,6 @@
-use Rattle.std.proofs.Common.{◌≡◌, ℕ, List, vec_items, sym, ap, ◌∙◌, subst}
+use Rattle.std.proofs.Common.{ℕ, List, vec_items, sym, ap, ◌∙◌, subst}
 use Rattle.std.proofs.lemmas.Result.{IfOk-weaker}
 use Rattle.sheet.specs.declared.steps.Step.{Step}
-use Rattle.sheet.specs.declared.steps.Answer.{Answer}
 use Rattle.sheet.specs.Runs.{WholeRun}
 use Rattle.formats.specs.Held.{job_fields}
 use Rattle.jobs.specs.Answers.{AllFilled, told}

@@ -1,6 +1,5 @@
-use Rattle.std.proofs.Common.{◌≡◌, ℕ, ◌+◌, List, get_or, drop, sym, ap, ◌∙◌, arith}
+use Rattle.std.proofs.Common.{◌≡◌, ◌+◌, get_or, drop, ap, ◌∙◌, arith}
 use Rattle.std.proofs.lemmas.List.{at_drop_all}
-use Rattle.formats.specs.declared.fields.Entry.{Entry}
 use Rattle.formats.proofs.Scanning.{from_index}
 use Rattle.jobs.specs.Refusals.{entry_with_cell}
 use Rattle.jobs.proofs.Entries.{nobody, with_first, with_second, with_neither}

@@ -1,9 +1,8 @@
-use Rattle.std.proofs.Common.{◌≡◌, ℕ, Bool, cond, List, map, length, vec_items, sym, refl, ap, ◌∙◌, subst}
+use Rattle.std.proofs.Common.{ℕ, cond, List, map, length, vec_items, ap, ◌∙◌}
 use Rattle.std.proofs.lemmas.Result.{IfOk-weaker}
 use Rattle.formats.specs.Files.{PlacementFields, placement_bytes}
-use Rattle.formats.specs.Held.{job_fields, placement_fields}
+use Rattle.formats.specs.Held.{job_fields}
 use Rattle.formats.specs.Choices.{exchanges}
-use Rattle.jobs.specs.Answers.{placement_said}
 use Rattle.jobs.proofs.Lawful.{job_checked, job_processes, long_list, placement_lawful, copied, either_long, map_either}
 use Rattle.jobs.proofs.telling.placed_file.Goals as goal
 

@@ -1,9 +1,9 @@
-use Rattle.std.proofs.Common.{◌≡◌, ℕ, ◌+◌, ◌-◌, List, [], ◌∷◌, ◌++◌, map, length, vec_items, sym, refl, ap, ◌∙◌, arith}
+use Rattle.std.proofs.Common.{ℕ, ◌+◌, ◌-◌, List, [], ◌∷◌, ◌++◌, map, length, vec_items, sym, refl, ap, ◌∙◌}
 use Rattle.refusal.specs.declared.fault.Side.TheVariants.{Width, Height}
 use Rattle.formats.specs.Reading.{Columns, columns, one_length}
 use Rattle.reading.specs.Held.{rule_of}
 use Rattle.reading.proofs.Turns.{all_left, both_columns, one_pushed, one_longer, first_fails, second_fails, columns_more, columns_done, re_read}
-use Rattle.reading.proofs.Exits.{refused_by, no_memory}
+use Rattle.reading.proofs.Exits.{refused_by}
 use Rattle.reading.proofs.reader.Reader.columns.Goals as goal
 
 pub loop-cell-init : goal.loop-cell-init

@@ -1,4 +1,4 @@
-use Rattle.std.proofs.Common.{◌≡◌, ℕ, ◌+◌, ◌-◌, List, vec_items, sym, refl, ap, ◌∙◌}
+use Rattle.std.proofs.Common.{ℕ, ◌+◌, ◌-◌, List, vec_items, sym, refl, ap, ◌∙◌}
 use Rattle.formats.specs.declared.fields.Entry.{Entry}
 use Rattle.formats.specs.Reading.{entry, entries}
 use Rattle.reading.proofs.Turns.{all_left, entries_more, entries_fail, entries_done, re_read}

@@ -1,5 +1,5 @@
 -- The numbers so far, and those that are left to read, make the whole length.
-use Rattle.std.proofs.Common.{◌≡◌, ◌-◌, ◌≤◌, length, take}
+use Rattle.std.proofs.Common.{◌≡◌, ◌-◌, length, take}
 use Rattle.formats.specs.Reading.{list, alone, not_a_size, one_length}
 use Rattle.reading.specs.Held.{rule_of}
 use Rattle.reading.proofs.reader.Reader.length.Given as goal

@@ -1,4 +1,4 @@
-use Rattle.std.proofs.Common.{◌≡◌, ℕ, ◌+◌, ◌-◌, List, vec_items, sym, refl, ap, ◌∙◌}
+use Rattle.std.proofs.Common.{ℕ, ◌+◌, ◌-◌, List, vec_items, sym, refl, ap, ◌∙◌}
 use Rattle.formats.specs.Rules.{fits}
 use Rattle.formats.specs.Reading.{list, misordered, order_number_at}
 use Rattle.reading.proofs.Turns.{all_left, list_more, list_fails, list_done, re_read}

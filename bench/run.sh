@@ -17,13 +17,14 @@ flags=${CXXFLAGS:--O2}
 clock=${CLOCK:-processor}
 runs=3
 made=target/bench
-ours=target/bin/speed
+ours=crates/speed/out/speed
 plain=$made/plain
 
 mkdir -p "$made"
-if ! rt check speed >"$made/check.log" 2>&1; then
-    tail -n 20 "$made/check.log" >&2
-    echo "bench: rt check speed failed; all that it wrote is in $made/check.log" >&2
+# proves the program, builds it, and runs it once for a few swaps
+if ! (cd crates/speed && rt run -- 10 8 pair one) >"$made/run.log" 2>&1; then
+    tail -n 20 "$made/run.log" >&2
+    echo "bench: rt run speed failed; all that it wrote is in $made/run.log" >&2
     exit 1
 fi
 # shellcheck disable=SC2086 # the flags are words of their own

@@ -100,7 +100,8 @@ def declared(text):
 
 
 def is_word(token):
-    return "-" in token and re.match(r"^[A-Za-z]", token) is not None
+    """Is the token of an older spelling: with a dash, or a definition in lower camel case?"""
+    return re.match(r"^[A-Za-z].*-", token) is not None or re.match(r"^[a-z][a-z0-9]*[A-Z]\w*$", token) is not None
 
 
 def library():
@@ -121,6 +122,8 @@ def respelled(name, is_fact):
         return BY_HAND[name]
     if is_fact and name[0].isupper():
         return camel(name)
+    if "-" not in name:
+        return re.sub(r"[A-Z]", lambda m: "_" + m.group().lower(), name)
     return name.replace("-", "_")
 
 
@@ -136,7 +139,7 @@ def main():
     own = {}
     for p, t in texts.items():
         for name, fact in declared(t).items():
-            if not plain(p) and re.search(r"(?m)^pub " + re.escape(name) + r" : goal\.", t):
+            if not plain(p) and re.search(r"(?m)^(abbrev )?pub " + re.escape(name) + r" : goal\.", t):
                 continue
             if is_word(name):
                 own[name] = own.get(name, False) or fact
@@ -144,7 +147,7 @@ def main():
     for p, t in texts.items():
         if plain(p):
             for line in t.split("\n"):
-                local.update(n for n in TOKEN.findall(code(line)) if is_word(n) and n not in own and n not in known)
+                local.update(n for n in TOKEN.findall(code(line)) if "-" in n and is_word(n) and n not in own and n not in known)
     both = sorted(n for n in own if n in known)
     turn = {n: respelled(n, f) for n, f in own.items() if n not in known or n in FORCED}
     there = set()

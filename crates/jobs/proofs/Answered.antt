@@ -2,7 +2,7 @@
 use Rattle.std.proofs.Common.{◌≡◌, ℕ, ◌+◌, ◌<◌, ◌≤◌, List, [], ◌∷◌, length, get_or, drop, sym, ap, ◌∙◌, subst}
 use Rattle.std.proofs.lemmas.List.{at_drop_all}
 use Rattle.refusal.specs.declared.fault.SheetFault.{SheetFault}
-use Rattle.refusal.specs.Register.{sheetTold}
+use Rattle.refusal.specs.Register.{sheet_told}
 use Rattle.sheet.specs.declared.steps.Answer.{Answer}
 use Rattle.sheet.specs.declared.steps.Answer.TheVariants as answer
 use Rattle.sheet.specs.declared.steps.Coordinates.{Coordinates}
@@ -21,7 +21,7 @@ module _ {V : Type 0} (numbers : V → List ℕ) (j : JobFields) (n i : ℕ) (an
   filled_here : (b : Answer V) → a ≡ b → AllFilled n (drop i answers) → AllFilled n (b ∷ drop (i + 1) answers)
   filled_here b is all = subst (AllFilled n) (at_index ∙ ap (λ (c : Answer V). c ∷ drop (i + 1) answers) is) all
 
-  pub told_refused : (f : SheetFault) → a ≡ answer.Refused f → told numbers j i (drop i answers) ≡ refusal_bytes (sheetTold (place_of_fault j i f) f)
+  pub told_refused : (f : SheetFault) → a ≡ answer.Refused f → told numbers j i (drop i answers) ≡ refusal_bytes (sheet_told (place_of_fault j i f) f)
   told_refused f is = told_here (answer.Refused f) is
 
   pub told_placed : (c : Coordinates V) → a ≡ answer.Placed c → told numbers j i (drop i answers) ≡ placement_bytes (placement_said numbers j c)

@@ -2,7 +2,7 @@
 use Rattle.std.specs.Prelude.{◌≡◌, ℕ, ◌+◌, cond, List, [], ◌∷◌, map, length, Ok, Err, vec_items}
 use Rattle.refusal.specs.declared.fault.FieldFault.{FieldFault}
 use Rattle.refusal.specs.declared.fault.SheetFault.TheVariants as sheet
-use Rattle.refusal.specs.Register.{fieldTold, sheetTold}
+use Rattle.refusal.specs.Register.{field_told, sheet_told}
 use Rattle.book.specs.Order.{Order}
 use Rattle.length.specs.Kind.{Kind}
 use Rattle.length.specs.Kinds.{plain_kind, process_kind, plain_numbers, process_numbers}
@@ -50,7 +50,7 @@ AllFilled n (answer.Placed c ∷ rest) = Filled n c × AllFilled n rest
 abbrev pub told : {V : Type 0} → (V → List ℕ) → JobFields → ℕ → List (Answer V) → List ℕ
 told numbers j i [] = []
 told numbers j i (answer.Edited ∷ rest) = told numbers j (i + 1) rest
-told numbers j i (answer.Refused f ∷ rest) = refusal_bytes (sheetTold (place_of_fault j i f) f)
+told numbers j i (answer.Refused f ∷ rest) = refusal_bytes (sheet_told (place_of_fault j i f) f)
 told numbers j i (answer.Placed c ∷ rest) = placement_bytes (placement_said numbers j c)
 
 -- an entry is done, or is unplaceable
@@ -96,11 +96,11 @@ ComesOf (job.Three j) out = (j.processes ≡ 3) × Comes process_kind process_nu
 
 -- the file of why a file could not be read; there is none where memory ran out
 abbrev pub RefusedBy : ReadError → List ℕ → Type 0
-RefusedBy (error.Refused f) out = out ≡ refusal_bytes (fieldTold f)
+RefusedBy (error.Refused f) out = out ≡ refusal_bytes (field_told f)
 RefusedBy error.Memory out = ⊥
 
 -- What a file comes to: it is refused at its first fault; or it is a job, with one number a length or with three.
 pub data Answers (file out : List ℕ) : Type 0 where
-  refused : {f : FieldFault} → read_job_of file ≡ Err f → out ≡ refusal_bytes (fieldTold f) → Answers file out
+  refused : {f : FieldFault} → read_job_of file ≡ Err f → out ≡ refusal_bytes (field_told f) → Answers file out
   one : {j : JobFields} → read_job_of file ≡ Ok j → j.processes ≡ 1 → Comes plain_kind plain_numbers j out → Answers file out
   three : {j : JobFields} → read_job_of file ≡ Ok j → j.processes ≡ 3 → Comes process_kind process_numbers j out → Answers file out

@@ -4,7 +4,7 @@ use Rattle.numbers.specs.Number.{encode_all}
 use Rattle.refusal.specs.declared.fault.SheetFault.{SheetFault}
 use Rattle.refusal.specs.declared.fault.SheetFault.TheVariants as sheet
 use Rattle.refusal.specs.declared.fault.Refusal.{Refusal}
-use Rattle.refusal.specs.Register.{layerNumber}
+use Rattle.refusal.specs.Register.{layer_number}
 use Rattle.formats.specs.declared.fields.Entry.{Entry}
 use Rattle.formats.specs.Rules.{names}
 use Rattle.formats.specs.Files.{JobFields, entry_place}
@@ -15,7 +15,7 @@ capped v = min v 4294967295
 
 -- the five numbers of a refusal
 abbrev pub refusal_numbers : Refusal → List ℕ
-refusal_numbers r = r.number ∷ layerNumber r.layer ∷ capped r.offset ∷ capped r.first ∷ capped r.second ∷ []
+refusal_numbers r = r.number ∷ layer_number r.layer ∷ capped r.offset ∷ capped r.first ∷ capped r.second ∷ []
 
 abbrev pub refusal_bytes : Refusal → List ℕ
 refusal_bytes r = encode_all (refusal_numbers r)

@@ -1,6 +1,6 @@
 //! From a fault to the refusal that comes out, and from one layer's fault to the next.
 ghost use Rattle.std.specs.Prelude.{◌≡◌, ◌⊎◌};
-ghost use Rattle.refusal.specs.Register.{byteTold, fieldTold, sheetTold, sideNumber, layerNumber, layerOf};
+ghost use Rattle.refusal.specs.Register.{byte_told, field_told, sheet_told, side_number, layer_number, layer_of};
 ghost use Rattle.refusal.specs.declared.fault.FieldFault.{FieldFault};
 ghost use Rattle.refusal.specs.declared.fault.SheetFault.{SheetFault};
 
@@ -22,7 +22,7 @@ fn bare(number: u8, layer: Layer, offset: usize) -> Refusal
 impl Side {
     /// The number by which a refusal's detail names the side.
     pub fn number(self) -> usize
-        ensures { result ≡ sideNumber self }
+        ensures { result ≡ side_number self }
     {
         match self {
             Side::Width => 1,
@@ -34,7 +34,7 @@ impl Side {
 impl Layer {
     /// The number by which a refusal names its layer.
     pub fn number(self) -> u8
-        ensures { result ≡ layerNumber self }
+        ensures { result ≡ layer_number self }
     {
         match self {
             Layer::Bytes => 1,
@@ -47,8 +47,8 @@ impl Layer {
 impl ByteFault {
     /// The refusal that this fault comes to.
     pub fn refusal(self) -> Refusal
-        ensures told { result ≡ byteTold self }
-        ensures layer { result.layer ≡ layerOf result.number }
+        ensures told { result ≡ byte_told self }
+        ensures layer { result.layer ≡ layer_of result.number }
     {
         match self {
             ByteFault::Ends { length } => bare(1, Layer::Bytes, length),
@@ -60,8 +60,8 @@ impl ByteFault {
 impl FieldFault {
     /// The refusal that this fault comes to.
     pub fn refusal(self) -> Refusal
-        ensures told { result ≡ fieldTold self }
-        ensures layer { result.layer ≡ layerOf result.number }
+        ensures told { result ≡ field_told self }
+        ensures layer { result.layer ≡ layer_of result.number }
     {
         match self {
             FieldFault::Bytes(fault) => fault.refusal(),
@@ -86,16 +86,16 @@ impl FieldFault {
 impl SheetFault {
     /// The refusal that this fault of a direct call comes to.
     pub fn refusal(self) -> Refusal
-        ensures told { result ≡ sheetTold 0 self }
-        ensures layer { (result.layer ≡ layerOf result.number) ⊎ (result.number ≡ 7) }
+        ensures told { result ≡ sheet_told 0 self }
+        ensures layer { (result.layer ≡ layer_of result.number) ⊎ (result.number ≡ 7) }
     {
         self.refusal_at(0)
     }
 
     /// The refusal that this fault comes to where the group entry at byte `at` of a job is at fault.
     pub fn refusal_at(self, at: usize) -> Refusal
-        ensures told { result ≡ sheetTold at self }
-        ensures layer { (result.layer ≡ layerOf result.number) ⊎ (result.number ≡ 7) }
+        ensures told { result ≡ sheet_told at self }
+        ensures layer { (result.layer ≡ layer_of result.number) ⊎ (result.number ≡ 7) }
     {
         let (number, first, second) = match self {
             SheetFault::Field(fault) => return fault.refusal(),

@@ -1,6 +1,6 @@
 use Rattle.std.proofs.Common.{ℕ, sym, ap, ◌∙◌}
 use Rattle.std.proofs.lemmas.Result.{IfOk-weaker}
-use Rattle.refusal.specs.Register.{sheetTold}
+use Rattle.refusal.specs.Register.{sheet_told}
 use Rattle.formats.specs.Held.{job_fields}
 use Rattle.jobs.specs.Refusals.{refusal_bytes}
 use Rattle.jobs.proofs.Answered.{told_refused, told_placed, filled_placed, told_edited, filled_edited, told_all}
@@ -12,7 +12,7 @@ returns-in-Refused g c =
     let j = job_fields numbers c.args.job.now in
     let f = c.in-Refused.fault in
     let is =
-    ap refusal_bytes (c.refusal_at.ensures.told ∙ ap (λ (at : ℕ). sheetTold at f) c.fault_place-offset.ensures)
+    ap refusal_bytes (c.refusal_at.ensures.told ∙ ap (λ (at : ℕ). sheet_told at f) c.fault_place-offset.ensures)
     ∙ sym (told_refused numbers j c.args.job.now.count c.loop-step.step c.args.answers.now c.index-answers-step.result c.loop-step-test.true c.index-answers-step.is f c.in-Refused.is)
     ∙ sym c.loop-step.invariant.0 in
     IfOk-weaker c.refusal_file.result _ _ (λ v e. e ∙ is) c.refusal_file.ensures

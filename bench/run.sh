@@ -24,7 +24,7 @@ mkdir -p "$made"
 # proves the program, builds it, and runs it once for a few swaps
 if ! (cd crates/speed && rt run -- 10 8 pair one) >"$made/run.log" 2>&1; then
     tail -n 20 "$made/run.log" >&2
-    echo "bench: rt run speed failed; all that it wrote is in $made/run.log" >&2
+    echo "bench: rt run in crates/speed failed; all that it wrote is in $made/run.log" >&2
     exit 1
 fi
 # shellcheck disable=SC2086 # the flags are words of their own

@@ -7,7 +7,7 @@ mod refusals;
 use crate::refusals::{print_jobs, print_placements};
 use formats::Job;
 use jobs::answer;
-use length::Length;
+use length::Numbered;
 use reading::{AnyJob, AnyPlacement, Reader, read_job, read_placement};
 use std::alloc::{AllocError, Global};
 use writing::{write_job, write_placement};
@@ -97,7 +97,7 @@ fn placement_stands(heap: Global, bytes: &[u8]) -> Option<bool> {
 }
 
 /// Whether a job that was read writes back to the same bytes.
-fn job_stands<T: Length>(job: &Job<T>, bytes: &[u8]) -> bool {
+fn job_stands<T: Numbered>(job: &Job<T>, bytes: &[u8]) -> bool {
     let mut room = [0u8; ROOM];
     match write_job(job, &mut room) {
         Ok(size) => same(&room, size, bytes),

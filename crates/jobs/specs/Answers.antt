@@ -1,5 +1,5 @@
 -- What a job file comes to: a placement file, or the file of the first refusal.
-use Rattle.std.specs.Prelude.{◌≡◌, ℕ, ◌+◌, cond, List, [], ◌∷◌, map, length, Ok, Err, vec_items}
+use Rattle.std.specs.Prelude.{◌≡◌, ℕ, ◌+◌, cond, List, [], ◌∷◌, map, length, Ok, Err, vec_items, All}
 use Rattle.refusal.specs.declared.fault.FieldFault.{FieldFault}
 use Rattle.refusal.specs.declared.fault.SheetFault.TheVariants as sheet
 use Rattle.refusal.specs.Register.{field_told, sheet_told}
@@ -10,7 +10,7 @@ use Rattle.sheet.specs.declared.steps.Step.{Step}
 use Rattle.sheet.specs.declared.steps.Answer.{Answer}
 use Rattle.sheet.specs.declared.steps.Answer.TheVariants as answer
 use Rattle.sheet.specs.declared.steps.Coordinates.{Coordinates}
-use Rattle.sheet.specs.Runs.{WholeRun}
+use Rattle.sheet.specs.Runs.{WholeRun, IsFilled}
 use Rattle.formats.specs.declared.fields.Entry.{Entry}
 use Rattle.formats.specs.Choices.{exchanges}
 use Rattle.formats.specs.Files.{JobFields, PlacementFields, placement_bytes}
@@ -70,12 +70,14 @@ pub data InOrder {V : Type 0} : List Entry → List (Answer V) → Type 0 where
   last : {a : Answer V} → PlacingCame a → InOrder [] (a ∷ [])
 
 -- What a job with these widths and heights comes to on a sheet made from an order: its entries and its placing are done in
--- turn, as a run of steps, and the answer tells what they came to. They are refused for nothing else than `InOrder` says.
+-- turn, as a run of steps, and the answer tells what they came to; a placing fills lists as long as the cells ask for. They
+-- are refused for nothing else than `InOrder` says.
 pub record CameOn {V : Type 0} (k : Kind V) (numbers : V → List ℕ) (o : Order) (widths heights : List V) (j : JobFields) (out : List ℕ) : Type 0 where
   pub steps : List (Step V)
   pub asks : Asks j.turn widths heights j.entries steps
   pub answers : List (Answer V)
   pub ran : WholeRun k o steps answers
+  pub filled : All (IsFilled o.count) answers
   pub in_order : InOrder j.entries answers
   pub tells : out ≡ told numbers j 0 answers
 

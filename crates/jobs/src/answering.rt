@@ -10,21 +10,21 @@ use crate::steps::steps_of;
 use crate::telling::{refusal_file, tell};
 use book::{Book, Flipped, SequencePair, Slicing, Transposed};
 use formats::{Job, OrderLists, Turn};
-use length::Length;
+use length::Numbered;
 use reading::{AnyJob, ReadError, read_job};
 use roundtrip::job_laws;
 use sheet::run;
 use std::alloc::{AllocError, Global};
 
 /// What a lawful job comes to on the sheet of a book, which is turned already.
-fn answer_on<B: Book + Drop, T: Length>(
+fn answer_on<B: Book + Drop, T: Numbered>(
     heap: Global,
     book: B,
     job: &Job<T>,
 ) -> Result<Vec<u8>, AllocError>
-    requires lawful { file.job_check (job_fields T.Length.numbers job.now) ≡ Ok tt }
+    requires lawful { file.job_check (job_fields T.Numbered.numbers job.now) ≡ Ok tt }
     requires counted { (B.Book.order book).count ≡ job.now.count }
-    ensures { IfOk result (λ v. CameOn T.Length.kind T.Length.numbers (B.Book.order book) job.now.widths.items job.now.heights.items (job_fields T.Length.numbers job.now) v.items) }
+    ensures { IfOk result (λ v. CameOn T.Length.kind T.Numbered.numbers (B.Book.order book) job.now.widths.items job.now.heights.items (job_fields T.Numbered.numbers job.now) v.items) }
 {
     let steps = steps_of(heap, job)?;
     let answers = run(heap, book, &steps)?;
@@ -32,14 +32,14 @@ fn answer_on<B: Book + Drop, T: Length>(
 }
 
 /// What a lawful job comes to, where the book means its lists.
-fn answer_with<B: Book + Drop, T: Length>(
+fn answer_with<B: Book + Drop, T: Numbered>(
     heap: Global,
     book: B,
     job: &Job<T>,
 ) -> Result<Vec<u8>, AllocError>
-    requires lawful { file.job_check (job_fields T.Length.numbers job.now) ≡ Ok tt }
+    requires lawful { file.job_check (job_fields T.Numbered.numbers job.now) ≡ Ok tt }
     requires means { Means job.now.count (order_fields job.now.order) (B.Book.order book) }
-    ensures { IfOk result (λ v. Comes T.Length.kind T.Length.numbers (job_fields T.Length.numbers job.now) v.items) }
+    ensures { IfOk result (λ v. Comes T.Length.kind T.Numbered.numbers (job_fields T.Numbered.numbers job.now) v.items) }
 {
     match job.turn {
         Turn::AsItIs => answer_on(heap, book, job),
@@ -50,9 +50,9 @@ fn answer_with<B: Book + Drop, T: Length>(
 }
 
 /// What a lawful job comes to.
-fn answer_job<T: Length>(heap: Global, job: &Job<T>) -> Result<Vec<u8>, AllocError>
-    requires lawful { file.job_check (job_fields T.Length.numbers job.now) ≡ Ok tt }
-    ensures { IfOk result (λ v. Comes T.Length.kind T.Length.numbers (job_fields T.Length.numbers job.now) v.items) }
+fn answer_job<T: Numbered>(heap: Global, job: &Job<T>) -> Result<Vec<u8>, AllocError>
+    requires lawful { file.job_check (job_fields T.Numbered.numbers job.now) ≡ Ok tt }
+    ensures { IfOk result (λ v. Comes T.Length.kind T.Numbered.numbers (job_fields T.Numbered.numbers job.now) v.items) }
 {
     match &job.order {
         OrderLists::SequencePair { first, second } => {

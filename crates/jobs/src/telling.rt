@@ -8,7 +8,7 @@ ghost use Rattle.jobs.specs.Refusals as refused;
 ghost use Rattle.jobs.specs.Answers.{told, placement_said, Filled, AllFilled};
 
 use formats::{Entry, Job, Placement};
-use length::Length;
+use length::{Length, Numbered};
 use numbers::write_number;
 use refusal::{Refusal, SheetFault};
 use sheet::{Answer, Coordinates};
@@ -75,9 +75,12 @@ fn number_file(heap: Global, numbers: &[u32]) -> Result<Vec<u8>, AllocError>
 }
 
 /// The file of a placement; the placement is lawful.
-fn placement_file<T: Length>(heap: Global, placement: &Placement<T>) -> Result<Vec<u8>, AllocError>
-    requires { file.placement_check (placement_fields T.Length.numbers placement.now) ≡ Ok tt }
-    ensures { IfOk result (λ v. v.items ≡ said.placement_bytes (placement_fields T.Length.numbers placement.now)) }
+fn placement_file<T: Numbered>(
+    heap: Global,
+    placement: &Placement<T>,
+) -> Result<Vec<u8>, AllocError>
+    requires { file.placement_check (placement_fields T.Numbered.numbers placement.now) ≡ Ok tt }
+    ensures { IfOk result (λ v. v.items ≡ said.placement_bytes (placement_fields T.Numbered.numbers placement.now)) }
 {
     let size = placement_size(placement).unwrap_or(0);
     let mut bytes = blank(heap, size)?;
@@ -86,14 +89,14 @@ fn placement_file<T: Length>(heap: Global, placement: &Placement<T>) -> Result<V
 }
 
 /// The file of what a lawful job's placing gave.
-fn placed_file<T: Length>(
+fn placed_file<T: Numbered>(
     heap: Global,
     job: &Job<T>,
     placed: &Coordinates<T>,
 ) -> Result<Vec<u8>, AllocError>
-    requires lawful { file.job_check (job_fields T.Length.numbers job.now) ≡ Ok tt }
+    requires lawful { file.job_check (job_fields T.Numbered.numbers job.now) ≡ Ok tt }
     requires filled { Filled job.now.count placed.now }
-    ensures { IfOk result (λ v. v.items ≡ said.placement_bytes (placement_said T.Length.numbers (job_fields T.Length.numbers job.now) placed.now)) }
+    ensures { IfOk result (λ v. v.items ≡ said.placement_bytes (placement_said T.Numbered.numbers (job_fields T.Numbered.numbers job.now) placed.now)) }
 {
     let turned = job.turn.exchanges();
     let x = copy_of(heap, either(turned, &placed.y, &placed.x))?;
@@ -136,17 +139,17 @@ fn entry_with(cell: usize, entries: &[Entry]) -> usize
 }
 
 /// Where in its file a lawful job's entry with this index begins.
-fn entry_place<T: Length>(job: &Job<T>, entry: usize) -> usize
-    requires lawful { file.job_check (job_fields T.Length.numbers job.now) ≡ Ok tt }
-    ensures { result ≡ said.entry_place (job_fields T.Length.numbers job.now) entry }
+fn entry_place<T: Numbered>(job: &Job<T>, entry: usize) -> usize
+    requires lawful { file.job_check (job_fields T.Numbered.numbers job.now) ≡ Ok tt }
+    ensures { result ≡ said.entry_place (job_fields T.Numbered.numbers job.now) entry }
 {
     entry_offset(job, entry).unwrap_or(0)
 }
 
 /// Where in its file a fault of a lawful job's placing is told.
-fn placing_place<T: Length>(job: &Job<T>, fault: SheetFault) -> usize
-    requires lawful { file.job_check (job_fields T.Length.numbers job.now) ≡ Ok tt }
-    ensures { result ≡ refused.place_of_placing (job_fields T.Length.numbers job.now) fault }
+fn placing_place<T: Numbered>(job: &Job<T>, fault: SheetFault) -> usize
+    requires lawful { file.job_check (job_fields T.Numbered.numbers job.now) ≡ Ok tt }
+    ensures { result ≡ refused.place_of_placing (job_fields T.Numbered.numbers job.now) fault }
 {
     match fault {
         SheetFault::PairSizesDiffer { cell, .. } => entry_place(
@@ -159,9 +162,9 @@ fn placing_place<T: Length>(job: &Job<T>, fault: SheetFault) -> usize
 }
 
 /// Where in its file a fault of a lawful job's step is told.
-fn fault_place<T: Length>(job: &Job<T>, step: usize, fault: SheetFault) -> usize
-    requires lawful { file.job_check (job_fields T.Length.numbers job.now) ≡ Ok tt }
-    ensures { result ≡ refused.place_of_fault (job_fields T.Length.numbers job.now) step fault }
+fn fault_place<T: Numbered>(job: &Job<T>, step: usize, fault: SheetFault) -> usize
+    requires lawful { file.job_check (job_fields T.Numbered.numbers job.now) ≡ Ok tt }
+    ensures { result ≡ refused.place_of_fault (job_fields T.Numbered.numbers job.now) step fault }
 {
     if step < job.entries.len() {
         entry_place(job, step)
@@ -171,14 +174,14 @@ fn fault_place<T: Length>(job: &Job<T>, step: usize, fault: SheetFault) -> usize
 }
 
 /// The file that tells what the steps of a lawful job came to.
-pub(crate) fn tell<T: Length>(
+pub(crate) fn tell<T: Numbered>(
     heap: Global,
     job: &Job<T>,
     answers: &[Answer<T>],
 ) -> Result<Vec<u8>, AllocError>
-    requires lawful { file.job_check (job_fields T.Length.numbers job.now) ≡ Ok tt }
+    requires lawful { file.job_check (job_fields T.Numbered.numbers job.now) ≡ Ok tt }
     requires filled { AllFilled job.now.count answers.now }
-    ensures { IfOk result (λ v. v.items ≡ told T.Length.numbers (job_fields T.Length.numbers job.now) 0 answers.now) }
+    ensures { IfOk result (λ v. v.items ≡ told T.Numbered.numbers (job_fields T.Numbered.numbers job.now) 0 answers.now) }
 {
     for (step, answer) in answers.iter().enumerate() {
         match answer {

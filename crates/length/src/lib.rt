@@ -30,23 +30,12 @@ pub trait Length: Copy {
     // how many numbers one length takes
     ghost count: { ℕ };
 
-    // the numbers that a length is made of, process by process
-    ghost numbers: { Self → List ℕ };
-
     /// How many numbers one length takes: 1 or 3.
     const NUMBERS: usize;
 
     /// `NUMBERS`, where generic code must know its value.
     fn count() -> usize
         ensures { result ≡ count };
-
-    /// The length that the first `NUMBERS` of these make.
-    fn from_numbers(list: [u32; MOST_NUMBERS]) -> Self
-        ensures { numbers result ≡ take count list };
-
-    /// The numbers of this length; what stands behind the first `NUMBERS` means nothing.
-    fn to_numbers(self) -> [u32; MOST_NUMBERS]
-        ensures { take count result ≡ numbers self };
 
     /// Whether this length is at most `other`, in every process.
     fn at_most(self, other: Self) -> bool
@@ -91,14 +80,28 @@ pub trait Length: Copy {
     ghost laws: { Laws kind };
 
     ghost counted: { (count ≡ 1) ⊎ (count ≡ 3) };
+}
 
-    ghost listed: { (a : Self) → length (numbers a) ≡ count };
+/// A length that can be taken apart into its numbers and made of them, as files do: one text then reads and writes every kind.
+pub trait Numbered: Length {
+    // the numbers that a length is made of, process by process
+    ghost numbers: { Self → List ℕ };
+
+    /// The length that the first `NUMBERS` of these make.
+    fn from_numbers(list: [u32; MOST_NUMBERS]) -> Self
+        ensures { numbers result ≡ take Self.count list };
+
+    /// The numbers of this length; what stands behind the first `NUMBERS` means nothing.
+    fn to_numbers(self) -> [u32; MOST_NUMBERS]
+        ensures { take Self.count result ≡ numbers self };
+
+    ghost listed: { (a : Self) → length (numbers a) ≡ Self.count };
 
     // equal numbers make equal lengths
     ghost pinned: { (a b : Self) → numbers a ≡ numbers b → a ≡ b };
 
     // a size is a length each of whose numbers a size may have
-    ghost sized: { (a : Self) → (kind.size a → EachLawful (numbers a)) × (EachLawful (numbers a) → kind.size a) };
+    ghost sized: { (a : Self) → (Self.kind.size a → EachLawful (numbers a)) × (EachLawful (numbers a) → Self.kind.size a) };
 }
 
 /// The sum of two measures, if it is at most `SUM_LIMIT`.
@@ -128,30 +131,14 @@ impl Length for Plain {
 
     ghost count = { 1 };
 
-    ghost numbers = { plain_numbers };
-
     const NUMBERS: usize = 1;
 
     ghost laws = { Prim.search rules };
 
     ghost counted = { Prim.search rules };
 
-    ghost listed = { Prim.search rules };
-
-    ghost pinned = { Prim.search rules };
-
-    ghost sized = { Prim.search rules };
-
     fn count() -> usize {
         Self::NUMBERS
-    }
-
-    fn from_numbers(list: [u32; MOST_NUMBERS]) -> Plain {
-        Plain(list[0])
-    }
-
-    fn to_numbers(self) -> [u32; MOST_NUMBERS] {
-        [self.0, 0, 0]
     }
 
     fn at_most(self, other: Plain) -> bool {
@@ -195,6 +182,24 @@ impl Length for Plain {
     }
 }
 
+impl Numbered for Plain {
+    ghost numbers = { plain_numbers };
+
+    ghost listed = { Prim.search rules };
+
+    ghost pinned = { Prim.search rules };
+
+    ghost sized = { Prim.search rules };
+
+    fn from_numbers(list: [u32; MOST_NUMBERS]) -> Plain {
+        Plain(list[0])
+    }
+
+    fn to_numbers(self) -> [u32; MOST_NUMBERS] {
+        [self.0, 0, 0]
+    }
+}
+
 impl fmt::Display for Plain {
     ghost output = { λ x. Some (plain_text x) };
 
@@ -217,34 +222,14 @@ impl Length for PerProcess {
 
     ghost count = { 3 };
 
-    ghost numbers = { process_numbers };
-
     const NUMBERS: usize = 3;
 
     ghost laws = { Prim.search rules };
 
     ghost counted = { Prim.search rules };
 
-    ghost listed = { Prim.search rules };
-
-    ghost pinned = { Prim.search rules };
-
-    ghost sized = { Prim.search rules };
-
     fn count() -> usize {
         Self::NUMBERS
-    }
-
-    fn from_numbers(list: [u32; MOST_NUMBERS]) -> PerProcess {
-        PerProcess {
-            first: list[0],
-            second: list[1],
-            third: list[2],
-        }
-    }
-
-    fn to_numbers(self) -> [u32; MOST_NUMBERS] {
-        [self.first, self.second, self.third]
     }
 
     fn at_most(self, other: PerProcess) -> bool {
@@ -311,6 +296,28 @@ impl Length for PerProcess {
 
     fn is_size(self) -> bool {
         is_lawful(self.first) && is_lawful(self.second) && is_lawful(self.third)
+    }
+}
+
+impl Numbered for PerProcess {
+    ghost numbers = { process_numbers };
+
+    ghost listed = { Prim.search rules };
+
+    ghost pinned = { Prim.search rules };
+
+    ghost sized = { Prim.search rules };
+
+    fn from_numbers(list: [u32; MOST_NUMBERS]) -> PerProcess {
+        PerProcess {
+            first: list[0],
+            second: list[1],
+            third: list[2],
+        }
+    }
+
+    fn to_numbers(self) -> [u32; MOST_NUMBERS] {
+        [self.first, self.second, self.third]
     }
 }
 

@@ -9,7 +9,7 @@ use crate::error::ReadError;
 use crate::lengths::{Allowed, Columns};
 use crate::reader::Reader;
 use formats::{Job, OrderLists, Turn};
-use length::{Length, PerProcess, Plain};
+use length::{Numbered, PerProcess, Plain};
 use std::alloc::Global;
 
 /// A job with one number a length, or with one for each of three processes.
@@ -49,10 +49,10 @@ impl<'a> Reader<'a> {
     }
 
     /// The sizes and the group entries.
-    fn body<T: Length>(&mut self, heap: Global, head: Head) -> Result<Job<T>, ReadError>
+    fn body<T: Numbered>(&mut self, heap: Global, head: Head) -> Result<Job<T>, ReadError>
         requires { head.processes ≡ T.Length.count }
         ensures same { self.new.bytes.now ≡ self.old.bytes.now }
-        ensures told { TookAs (job_fields T.Length.numbers) (file.body (head_of head) self.old.bytes.now self.old.at) result self.new.at }
+        ensures told { TookAs (job_fields T.Numbered.numbers) (file.body (head_of head) self.old.bytes.now self.old.at) result self.new.at }
     {
         let Head {
             count,
@@ -76,9 +76,9 @@ impl<'a> Reader<'a> {
     }
 
     /// The sizes and the group entries, and nothing behind them.
-    fn last_part<T: Length>(mut self, heap: Global, head: Head) -> Result<Job<T>, ReadError>
+    fn last_part<T: Numbered>(mut self, heap: Global, head: Head) -> Result<Job<T>, ReadError>
         requires { head.processes ≡ T.Length.count }
-        ensures { MatchResult result (λ j. file.at_end self.entry.bytes.now (file.body (head_of head) self.entry.bytes.now self.entry.at) ≡ Ok (job_fields T.Length.numbers j)) (Fails (file.at_end self.entry.bytes.now (file.body (head_of head) self.entry.bytes.now self.entry.at))) }
+        ensures { MatchResult result (λ j. file.at_end self.entry.bytes.now (file.body (head_of head) self.entry.bytes.now self.entry.at) ≡ Ok (job_fields T.Numbered.numbers j)) (Fails (file.at_end self.entry.bytes.now (file.body (head_of head) self.entry.bytes.now self.entry.at))) }
     {
         let job = self.body(heap, head)?;
         self.end()?;

@@ -7,7 +7,7 @@ ghost use Rattle.reading.specs.Held.{rule_of, columns_of};
 
 use crate::error::ReadError;
 use crate::reader::Reader;
-use length::{LARGEST_SIZE, Length, MOST_NUMBERS};
+use length::{LARGEST_SIZE, MOST_NUMBERS, Numbered};
 use refusal::{FieldFault, Side};
 use std::alloc::Global;
 
@@ -59,14 +59,14 @@ impl<'a> Reader<'a> {
     }
 
     /// One length of a cell.
-    pub(crate) fn length<T: Length>(
+    pub(crate) fn length<T: Numbered>(
         &mut self,
         allowed: Allowed,
         cell: usize,
         side: Side,
     ) -> Result<T, FieldFault>
         ensures same { self.new.bytes.now ≡ self.old.bytes.now }
-        ensures told { TookBy T.Length.numbers (file.one_length (rule_of allowed) T.Length.count cell side self.old.bytes.now self.old.at) result self.new.at }
+        ensures told { TookBy T.Numbered.numbers (file.one_length (rule_of allowed) T.Length.count cell side self.old.bytes.now self.old.at) result self.new.at }
     {
         let mut list = [0; MOST_NUMBERS];
         for i in 0..T::count() {
@@ -76,14 +76,14 @@ impl<'a> Reader<'a> {
     }
 
     /// Two lengths for each of `n` cells.
-    pub(crate) fn columns<T: Length>(
+    pub(crate) fn columns<T: Numbered>(
         &mut self,
         heap: Global,
         allowed: Allowed,
         n: usize,
     ) -> Result<Columns<T>, ReadError>
         ensures same { self.new.bytes.now ≡ self.old.bytes.now }
-        ensures told { TookAs (columns_of T.Length.numbers) (file.columns (rule_of allowed) T.Length.count n file.no_columns self.old.bytes.now self.old.at) result self.new.at }
+        ensures told { TookAs (columns_of T.Numbered.numbers) (file.columns (rule_of allowed) T.Length.count n file.no_columns self.old.bytes.now self.old.at) result self.new.at }
     {
         let mut firsts = Vec::new(heap);
         let mut seconds = Vec::new(heap);

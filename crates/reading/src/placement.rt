@@ -9,7 +9,7 @@ use crate::error::ReadError;
 use crate::lengths::{Allowed, Columns};
 use crate::reader::Reader;
 use formats::Placement;
-use length::{Length, PerProcess, Plain};
+use length::{Numbered, PerProcess, Plain};
 use refusal::{FieldFault, Side};
 use std::alloc::Global;
 
@@ -41,14 +41,14 @@ impl<'a> Reader<'a> {
     }
 
     /// The half-span, the depth, and where each cell stands.
-    fn placement_body<T: Length>(
+    fn placement_body<T: Numbered>(
         &mut self,
         heap: Global,
         head: PlacementHead,
     ) -> Result<Placement<T>, ReadError>
         requires { head.processes ≡ T.Length.count }
         ensures same { self.new.bytes.now ≡ self.old.bytes.now }
-        ensures told { TookAs (placement_fields T.Length.numbers) (file.placement_body_at (placement_head_of head) self.old.bytes.now self.old.at) result self.new.at }
+        ensures told { TookAs (placement_fields T.Numbered.numbers) (file.placement_body_at (placement_head_of head) self.old.bytes.now self.old.at) result self.new.at }
     {
         let half_span = self.length(Allowed::Any, 0, Side::Width)?;
         let depth = self.length(Allowed::Any, 0, Side::Height)?;
@@ -65,13 +65,13 @@ impl<'a> Reader<'a> {
     }
 
     /// The lengths, and nothing behind them.
-    fn last_lengths<T: Length>(
+    fn last_lengths<T: Numbered>(
         mut self,
         heap: Global,
         head: PlacementHead,
     ) -> Result<Placement<T>, ReadError>
         requires { head.processes ≡ T.Length.count }
-        ensures { MatchResult result (λ p. file.at_end self.entry.bytes.now (file.placement_body_at (placement_head_of head) self.entry.bytes.now self.entry.at) ≡ Ok (placement_fields T.Length.numbers p)) (Fails (file.at_end self.entry.bytes.now (file.placement_body_at (placement_head_of head) self.entry.bytes.now self.entry.at))) }
+        ensures { MatchResult result (λ p. file.at_end self.entry.bytes.now (file.placement_body_at (placement_head_of head) self.entry.bytes.now self.entry.at) ≡ Ok (placement_fields T.Numbered.numbers p)) (Fails (file.at_end self.entry.bytes.now (file.placement_body_at (placement_head_of head) self.entry.bytes.now self.entry.at))) }
     {
         let placement = self.placement_body(heap, head)?;
         self.end()?;

@@ -14,7 +14,7 @@ ghost use Rattle.book.specs.Order.{most_cells};
 use anyhow::anyhow;
 use book::{Book, SequencePair, Slicing};
 use dice::Dice;
-use length::{Length, PerProcess, Plain};
+use length::{Numbered, PerProcess, Plain};
 use refusal::SheetFault;
 use sheet::Sheet;
 use start::Lists;
@@ -24,7 +24,7 @@ use tally::Tally;
 const USAGE: &str = "usage: speed SWAPS 8|16|32|64 pair|slicing one|three";
 
 /// Does so many random swaps on a sheet, and places it after each that is done.
-fn swaps<B: Book, T: Length>(sheet: &mut Sheet<B>, lists: &mut Lists<T>, count: u32) -> Tally {
+fn swaps<B: Book, T: Numbered>(sheet: &mut Sheet<B>, lists: &mut Lists<T>, count: u32) -> Tally {
     let n = sheet.count();
     let mut dice = Dice::new();
     let mut tally = Tally::new();
@@ -50,7 +50,7 @@ fn swaps<B: Book, T: Length>(sheet: &mut Sheet<B>, lists: &mut Lists<T>, count: 
 }
 
 /// Swaps on the sheet of a book of `n` cells, with one kind of length, and says what they came to.
-fn report<B: Book + Drop, T: Length>(
+fn report<B: Book + Drop, T: Numbered>(
     rt: &HostRuntime,
     book: B,
     n: usize,

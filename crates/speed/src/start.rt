@@ -6,7 +6,7 @@ ghost use Rattle.std.specs.Prelude.{◌≡◌, ◌/◌, ◌<◌, ◌≤◌};
 ghost use Rattle.book.specs.Order.{most_cells};
 
 use book::Book;
-use length::Length;
+use length::{Length, Numbered};
 use refusal::SheetFault;
 use sheet::Sheet;
 use std::alloc::{AllocError, Global};
@@ -92,7 +92,7 @@ fn number(seed: usize) -> u32
 }
 
 /// The width of a cell of its own, or of a pair; twice as wide where the cell is centred, so that the width is even.
-fn width<T: Length>(cell: usize, centred: bool) -> T
+fn width<T: Numbered>(cell: usize, centred: bool) -> T
     requires { cell < most_cells }
 {
     let times = if centred { 2 } else { 1 };
@@ -104,7 +104,7 @@ fn width<T: Length>(cell: usize, centred: bool) -> T
 }
 
 /// The height of a cell of its own, or of a pair.
-fn height<T: Length>(cell: usize) -> T
+fn height<T: Numbered>(cell: usize) -> T
     requires { cell < most_cells }
 {
     T::from_numbers([
@@ -124,7 +124,7 @@ fn zeros<T: Length>(heap: Global, n: usize) -> Result<Vec<T>, AllocError> {
 }
 
 /// The lists of a placing of `n` cells, with sizes that vary from cell to cell and agree between mates.
-pub(crate) fn lists_of<T: Length>(heap: Global, n: usize) -> Result<Lists<T>, AllocError>
+pub(crate) fn lists_of<T: Numbered>(heap: Global, n: usize) -> Result<Lists<T>, AllocError>
     requires { n ≤ most_cells }
 {
     let mut widths = Vec::new(heap);

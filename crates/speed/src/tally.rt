@@ -1,5 +1,5 @@
 //! What the swaps came to.
-use length::Length;
+use length::Numbered;
 use refusal::SheetFault;
 
 /// How many swaps were done and how many refused, and a checksum over every placement and every refusal.
@@ -25,14 +25,14 @@ impl Tally {
     }
 
     /// Takes the numbers of a length into the checksum, process by process.
-    fn add_length<T: Length>(&mut self, length: T) {
+    fn add_length<T: Numbered>(&mut self, length: T) {
         for number in length.to_numbers().iter().take(T::count()) {
             self.add(*number as u64);
         }
     }
 
     /// Counts a swap that is done, with the placement that it leads to.
-    pub(crate) fn place<T: Length>(&mut self, half_span: T, depth: T, x: &[T], y: &[T]) {
+    pub(crate) fn place<T: Numbered>(&mut self, half_span: T, depth: T, x: &[T], y: &[T]) {
         self.done = self.done.wrapping_add(1);
         self.add_length(half_span);
         self.add_length(depth);

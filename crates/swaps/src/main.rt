@@ -1,7 +1,7 @@
 //! Random swaps on a sheet of 64 cells, each judged and, where it is done, placed: a figure for the speed of a run.
 #![tactic(auto)]
 
-use book::{Book, MOST_CELLS, SequencePair};
+use book::{MOST_CELLS, SequencePair};
 use length::Plain;
 use refusal::SheetFault;
 use sheet::Sheet;

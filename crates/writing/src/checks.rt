@@ -6,7 +6,7 @@ ghost use Rattle.formats.specs.Reading.{misordered};
 ghost use Rattle.formats.specs.Writing as file;
 
 use formats::{BookKind, Entry, Job, OrderLists, fits, fits_entry, is_count};
-use length::Length;
+use length::Numbered;
 use refusal::{FieldFault, SheetFault, Side};
 
 /// Checks the number of cells, then the number of processes.
@@ -34,14 +34,14 @@ fn check_length(ok: bool, list: usize) -> Result<(), SheetFault>
 }
 
 /// Whether there are `n` lengths, of so many numbers each.
-fn is_long<T: Length>(n: usize, processes: usize, list: &[T]) -> bool
-    ensures { result ≡ file.are_long n processes (map T.Length.numbers list.now) }
+fn is_long<T: Numbered>(n: usize, processes: usize, list: &[T]) -> bool
+    ensures { result ≡ file.are_long n processes (map T.Numbered.numbers list.now) }
 {
     list.len() == n && (list.is_empty() || T::count() == processes)
 }
 
 /// Checks two lists of lengths, the first of which has this number.
-pub(crate) fn check_columns<T: Length>(
+pub(crate) fn check_columns<T: Numbered>(
     n: usize,
     processes: usize,
     list: usize,
@@ -49,17 +49,17 @@ pub(crate) fn check_columns<T: Length>(
     seconds: &[T],
 ) -> Result<(), SheetFault>
     requires { list ≤ 3 }
-    ensures { result ≡ file.columns_check n processes list (map T.Length.numbers firsts.now) (map T.Length.numbers seconds.now) }
+    ensures { result ≡ file.columns_check n processes list (map T.Numbered.numbers firsts.now) (map T.Numbered.numbers seconds.now) }
 {
     check_length(is_long(n, processes, firsts), list)?;
     check_length(is_long(n, processes, seconds), list + 1)
 }
 
 /// Checks the lengths of a job's lists.
-fn check_lists<T: Length>(job: &Job<T>) -> Result<(), SheetFault>
+fn check_lists<T: Numbered>(job: &Job<T>) -> Result<(), SheetFault>
     requires some { 1 ≤ job.now.count }
     requires few { job.now.count ≤ 64 }
-    ensures { result ≡ file.lists_check (job_fields T.Length.numbers job.now) (order_fields job.now.order) }
+    ensures { result ≡ file.lists_check (job_fields T.Numbered.numbers job.now) (order_fields job.now.order) }
 {
     let n = job.count;
     match &job.order {
@@ -101,8 +101,8 @@ fn check_order(n: usize, order: &OrderLists) -> Result<(), SheetFault>
 }
 
 /// Checks that a width or a height is a size.
-fn check_size<T: Length>(length: T, cell: usize, side: Side) -> Result<(), SheetFault>
-    ensures { result ≡ file.size_check (T.Length.numbers length) cell side }
+fn check_size<T: Numbered>(length: T, cell: usize, side: Side) -> Result<(), SheetFault>
+    ensures { result ≡ file.size_check (T.Numbered.numbers length) cell side }
 {
     if length.is_size() {
         Ok(())
@@ -112,8 +112,8 @@ fn check_size<T: Length>(length: T, cell: usize, side: Side) -> Result<(), Sheet
 }
 
 /// Checks the width and the height of each cell.
-fn check_sizes<T: Length>(widths: &[T], heights: &[T]) -> Result<(), SheetFault>
-    ensures { result ≡ file.sizes_check 0 (map T.Length.numbers widths.now) (map T.Length.numbers heights.now) }
+fn check_sizes<T: Numbered>(widths: &[T], heights: &[T]) -> Result<(), SheetFault>
+    ensures { result ≡ file.sizes_check 0 (map T.Numbered.numbers widths.now) (map T.Numbered.numbers heights.now) }
 {
     for cell in 0..widths.len().min(heights.len()) {
         check_size(widths[cell], cell, Side::Width)?;
@@ -135,8 +135,8 @@ fn check_entries(n: usize, entries: &[Entry]) -> Result<(), SheetFault>
 }
 
 /// Makes every check of a job.
-pub(crate) fn check_job<T: Length>(job: &Job<T>) -> Result<(), SheetFault>
-    ensures { result ≡ file.job_check (job_fields T.Length.numbers job.now) }
+pub(crate) fn check_job<T: Numbered>(job: &Job<T>) -> Result<(), SheetFault>
+    ensures { result ≡ file.job_check (job_fields T.Numbered.numbers job.now) }
 {
     check_counts(job.count, job.processes)?;
     check_lists(job)?;

@@ -9,15 +9,15 @@ ghost use Rattle.writing.specs.Calls.{Puts};
 use crate::checks::{check_columns, check_counts};
 use crate::putting::{put_columns, put_length, put_number};
 use formats::Placement;
-use length::Length;
+use length::Numbered;
 use refusal::{FieldFault, SheetFault};
 
 /// The number that marks a placement file.
 const MARK: u32 = 0;
 
 /// Makes every check of a placement.
-fn check_placement<T: Length>(placement: &Placement<T>) -> Result<(), SheetFault>
-    ensures { result ≡ file.placement_check (placement_fields T.Length.numbers placement.now) }
+fn check_placement<T: Numbered>(placement: &Placement<T>) -> Result<(), SheetFault>
+    ensures { result ≡ file.placement_check (placement_fields T.Numbered.numbers placement.now) }
 {
     check_counts(placement.count, placement.processes)?;
     check_columns(
@@ -30,9 +30,9 @@ fn check_placement<T: Length>(placement: &Placement<T>) -> Result<(), SheetFault
 }
 
 /// Puts a lawful placement.
-fn put_placement<T: Length>(out: &mut [u8], placement: &Placement<T>) -> usize
-    requires lawful { file.placement_check (placement_fields T.Length.numbers placement.now) ≡ Ok tt }
-    ensures { Puts out.old 0 (said.placement_numbers (placement_fields T.Length.numbers placement.now)) out.new result }
+fn put_placement<T: Numbered>(out: &mut [u8], placement: &Placement<T>) -> usize
+    requires lawful { file.placement_check (placement_fields T.Numbered.numbers placement.now) ≡ Ok tt }
+    ensures { Puts out.old 0 (said.placement_numbers (placement_fields T.Numbered.numbers placement.now)) out.new result }
 {
     let counted = put_number(out, 0, MARK);
     let processes = put_number(out, counted, placement.count as u32);
@@ -43,8 +43,8 @@ fn put_placement<T: Length>(out: &mut [u8], placement: &Placement<T>) -> usize
 }
 
 /// How many bytes a placement file has. Refuses a placement that cannot be written.
-pub fn placement_size<T: Length>(placement: &Placement<T>) -> Result<usize, SheetFault>
-    ensures { let p = placement_fields T.Length.numbers placement.now in MatchResult result (λ n. (file.placement_check p ≡ Ok tt) × (n ≡ length (said.placement_bytes p))) (λ f. file.placement_check p ≡ Err f) }
+pub fn placement_size<T: Numbered>(placement: &Placement<T>) -> Result<usize, SheetFault>
+    ensures { let p = placement_fields T.Numbered.numbers placement.now in MatchResult result (λ n. (file.placement_check p ≡ Ok tt) × (n ≡ length (said.placement_bytes p))) (λ f. file.placement_check p ≡ Err f) }
 {
     check_placement(placement)?;
     let mut nothing = [0u8; 0];
@@ -52,11 +52,11 @@ pub fn placement_size<T: Length>(placement: &Placement<T>) -> Result<usize, Shee
 }
 
 /// Writes a placement file into the output and answers how many bytes it has; or refuses, and changes no byte.
-pub fn write_placement<T: Length>(
+pub fn write_placement<T: Numbered>(
     placement: &Placement<T>,
     out: &mut [u8],
 ) -> Result<usize, SheetFault>
-    ensures { let p = placement_fields T.Length.numbers placement.now in Written (file.placement_check p) (said.placement_bytes p) out.old out.new result }
+    ensures { let p = placement_fields T.Numbered.numbers placement.now in Written (file.placement_check p) (said.placement_bytes p) out.old out.new result }
 {
     let needed = placement_size(placement)?;
     if out.len() < needed {

@@ -6,7 +6,7 @@ ghost use Rattle.formats.specs.Files.{by_cell, entry_numbers};
 ghost use Rattle.writing.specs.Calls.{Puts};
 
 use formats::Entry;
-use length::Length;
+use length::Numbered;
 use numbers::write_number;
 
 /// Puts one number.
@@ -31,9 +31,9 @@ pub(crate) fn put_list(out: &mut [u8], at: usize, numbers: &[usize]) -> usize
 }
 
 /// Puts the numbers of a length.
-pub(crate) fn put_length<T: Length>(out: &mut [u8], at: usize, length: T) -> usize
+pub(crate) fn put_length<T: Numbered>(out: &mut [u8], at: usize, length: T) -> usize
     requires { at + 15 ≤ 2 ^ 32 }
-    ensures { Puts out.old at (T.Length.numbers length) out.new result }
+    ensures { Puts out.old at (T.Numbered.numbers length) out.new result }
 {
     let numbers = length.to_numbers();
     let mut place = at;
@@ -44,14 +44,14 @@ pub(crate) fn put_length<T: Length>(out: &mut [u8], at: usize, length: T) -> usi
 }
 
 /// Puts two lengths of each cell.
-pub(crate) fn put_columns<T: Length>(
+pub(crate) fn put_columns<T: Numbered>(
     out: &mut [u8],
     at: usize,
     firsts: &[T],
     seconds: &[T],
 ) -> usize
     requires { at + 30 * length firsts.now ≤ 2 ^ 32 }
-    ensures { Puts out.old at (by_cell (map T.Length.numbers firsts.now) (map T.Length.numbers seconds.now)) out.new result }
+    ensures { Puts out.old at (by_cell (map T.Numbered.numbers firsts.now) (map T.Numbered.numbers seconds.now)) out.new result }
 {
     let mut place = at;
     for cell in 0..firsts.len().min(seconds.len()) {

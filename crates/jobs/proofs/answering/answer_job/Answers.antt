@@ -11,7 +11,7 @@ use Rattle.jobs.proofs.answering.answer_job.Goals as goal
 pub returns-in-Err : goal.returns-in-Err
 returns-in-Err g c =
     let job = c.args.job.now in
-    let j = job_fields g.T.Length.numbers job in
+    let j = job_fields g.T.Numbered.numbers job in
     let first = vec_items c.in-SequencePair.first in
     let second = vec_items c.in-SequencePair.second in
     let checked = job_checked j c.requires.lawful in
@@ -25,7 +25,7 @@ returns-in-Err g c =
 pub returns-in-Err-new : goal.returns-in-Err-new
 returns-in-Err-new g c =
     let job = c.args.job.now in
-    let j = job_fields g.T.Length.numbers job in
+    let j = job_fields g.T.Numbered.numbers job in
     let list = vec_items c.in-Slicing.expression in
     let checked = job_checked j c.requires.lawful in
     let is = ap order_fields c.in-Slicing.is in

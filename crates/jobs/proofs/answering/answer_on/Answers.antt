@@ -18,7 +18,7 @@ tell-requires g c =
 
 pub returns : goal.returns
 returns g c =
-    let numbers = g.T.Length.numbers in
+    let numbers = g.T.Numbered.numbers in
     let j = job_fields numbers c.args.job.now in
     let o = g.B.Book.order c.args.book in
     let steps = vec_items c.in_ok-steps.steps in
@@ -31,7 +31,8 @@ returns g c =
       asks = asks;
       answers = answers;
       ran = ran;
-      in_order = run_in_order g.T.Length.kind numbers (λ v. (g.met.T.Length.sized v).1) c.args.job.now c.requires.lawful o c.requires.counted steps answers asks ran;
+      filled = c.in_ok-answers.ensures.filled;
+      in_order = run_in_order g.T.Length.kind numbers (λ v. (g.met.T.Numbered.sized v).1) c.args.job.now c.requires.lawful o c.requires.counted steps answers asks ran;
       tells = e ∙ ap (told numbers j 0) c.deref-2.ensures.value;
     })
     c.tell.ensures

@@ -7,5 +7,5 @@ use Rattle.jobs.proofs.telling.entry_place.Goals as goal
 
 pub returns : goal.returns
 returns g c =
-    let j = job_fields g.T.Length.numbers c.args.job.now in
+    let j = job_fields g.T.Numbered.numbers c.args.job.now in
     c.unwrap_or.ensures ∙ value_of c.entry_offset.result (job_check j) (entry_place j c.args.entry) c.requires.lawful c.entry_offset.ensures

@@ -8,8 +8,8 @@ use Rattle.jobs.proofs.telling.placed_file.Goals as goal
 
 pub placement_file-requires : goal.placement_file-requires
 placement_file-requires g c =
-    let numbers = g.T.Length.numbers in
-    let listed = g.met.T.Length.listed in
+    let numbers = g.T.Numbered.numbers in
+    let listed = g.met.T.Numbered.listed in
     let job = c.args.job.now in
     let j = job_fields numbers job in
     let n = job.count in
@@ -35,7 +35,7 @@ placement_file-requires g c =
 pub returns : goal.returns
 returns g c =
     let V = g.row.T.Denot in
-    let numbers = g.T.Length.numbers in
+    let numbers = g.T.Numbered.numbers in
     let job = c.args.job.now in
     let t = exchanges job.turn in
     let placed = c.args.placed.now in

@@ -8,7 +8,7 @@ use Rattle.jobs.proofs.telling.placement_file.Goals as goal
 
 pub returns : goal.returns
 returns g c =
-    let p = placement_fields g.T.Length.numbers c.args.placement.now in
+    let p = placement_fields g.T.Numbered.numbers c.args.placement.now in
     let size = c.unwrap_or-size.ensures ∙ value_of c.placement_size.result (placement_check p) (length (placement_bytes p)) c.requires c.placement_size.ensures in
     with_items_is c.in_ok-bytes.bytes c.write_placement.new.out (omega (arith, c.write_placement.auto.out, c.deref_mut.ensures.len))
     ∙ written_whole c.requires (ap length c.deref_mut.ensures.value ∙ c.in_ok-bytes.ensures ∙ size) c.write_placement.ensures

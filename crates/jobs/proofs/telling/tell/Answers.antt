@@ -8,7 +8,7 @@ use Rattle.jobs.proofs.telling.tell.Goals as goal
 
 pub returns-in-Refused : goal.returns-in-Refused
 returns-in-Refused g c =
-    let numbers = g.T.Length.numbers in
+    let numbers = g.T.Numbered.numbers in
     let j = job_fields numbers c.args.job.now in
     let f = c.in-Refused.fault in
     let is =
@@ -20,19 +20,19 @@ returns-in-Refused g c =
 pub placed_file-requires : goal.placed_file-requires
 placed_file-requires g c = record {
   lawful = c.requires.lawful;
-  filled = filled_placed g.T.Length.numbers (job_fields g.T.Length.numbers c.args.job.now) c.args.job.now.count c.loop-step.step c.args.answers.now c.index-answers-step.result c.loop-step-test.true c.index-answers-step.is c.in-Placed.placed c.in-Placed.is c.loop-step.invariant.1;
+  filled = filled_placed g.T.Numbered.numbers (job_fields g.T.Numbered.numbers c.args.job.now) c.args.job.now.count c.loop-step.step c.args.answers.now c.index-answers-step.result c.loop-step-test.true c.index-answers-step.is c.in-Placed.placed c.in-Placed.is c.loop-step.invariant.1;
 }
 
 pub returns-in-Placed : goal.returns-in-Placed
 returns-in-Placed g c =
-    let numbers = g.T.Length.numbers in
+    let numbers = g.T.Numbered.numbers in
     let j = job_fields numbers c.args.job.now in
     let is = sym (told_placed numbers j c.args.job.now.count c.loop-step.step c.args.answers.now c.index-answers-step.result c.loop-step-test.true c.index-answers-step.is c.in-Placed.placed c.in-Placed.is) ∙ sym c.loop-step.invariant.0 in
     IfOk-weaker c.placed_file.result _ _ (λ v e. e ∙ is) c.placed_file.ensures
 
 pub loop-step-preserved : goal.loop-step-preserved
 loop-step-preserved g c =
-    let numbers = g.T.Length.numbers in
+    let numbers = g.T.Numbered.numbers in
     let j = job_fields numbers c.args.job.now in (
       c.loop-step.invariant.0 ∙ told_edited numbers j c.args.job.now.count c.loop-step.step c.args.answers.now c.index-answers-step.result c.loop-step-test.true c.index-answers-step.is c.in-Edited.is,
       filled_edited numbers j c.args.job.now.count c.loop-step.step c.args.answers.now c.index-answers-step.result c.loop-step-test.true c.index-answers-step.is c.in-Edited.is c.loop-step.invariant.1,
@@ -40,4 +40,4 @@ loop-step-preserved g c =
 
 pub returns : goal.returns
 returns g c =
-    c.new.ensures.items ∙ sym (c.loop-step.invariant.0 ∙ told_all g.T.Length.numbers (job_fields g.T.Length.numbers c.args.job.now) c.loop-step.step c.args.answers.now c.loop-step-test.false)
+    c.new.ensures.items ∙ sym (c.loop-step.invariant.0 ∙ told_all g.T.Numbered.numbers (job_fields g.T.Numbered.numbers c.args.job.now) c.loop-step.step c.args.answers.now c.loop-step-test.false)

@@ -6,5 +6,5 @@ use Rattle.jobs.proofs.telling.tell.Given as goal
 
 abbrev pub invariant-loop-step : goal.invariant-loop-step
 invariant-loop-step g l =
-    (told g.T.Length.numbers (job_fields g.T.Length.numbers l.job) 0 l.answers ≡ told g.T.Length.numbers (job_fields g.T.Length.numbers l.job) l.step (drop l.step l.answers))
+    (told g.T.Numbered.numbers (job_fields g.T.Numbered.numbers l.job) 0 l.answers ≡ told g.T.Numbered.numbers (job_fields g.T.Numbered.numbers l.job) l.step (drop l.step l.answers))
     × AllFilled l.job.count (drop l.step l.answers)

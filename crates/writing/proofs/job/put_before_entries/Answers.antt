@@ -9,36 +9,36 @@ use Rattle.writing.proofs.job.put_before_entries.Goals as goal
 
 pub put_number-processes-requires : goal.put_number-processes-requires
 put_number-processes-requires g c =
-    let small = lawful_small (job_fields g.T.Length.numbers c.args.job.now) c.requires.lawful in
+    let small = lawful_small (job_fields g.T.Numbered.numbers c.args.job.now) c.requires.lawful in
     omega (arith, puts_place c.put_number-counted.ensures, puts_place c.put_number-ordered.ensures, puts_place c.put_order-turned.ensures, small.order_few)
 
 pub put_number-sized-requires : goal.put_number-sized-requires
 put_number-sized-requires g c =
-    let small = lawful_small (job_fields g.T.Length.numbers c.args.job.now) c.requires.lawful in
+    let small = lawful_small (job_fields g.T.Numbered.numbers c.args.job.now) c.requires.lawful in
     omega (arith, puts_place c.put_number-counted.ensures, puts_place c.put_number-ordered.ensures, puts_place c.put_order-turned.ensures, small.order_few, puts_place c.put_number-processes.ensures)
 
 pub put_columns-grouped-requires : goal.put_columns-grouped-requires
 put_columns-grouped-requires g c =
-    let small = lawful_small (job_fields g.T.Length.numbers c.args.job.now) c.requires.lawful in
-    omega (arith, puts_place c.put_number-counted.ensures, puts_place c.put_number-ordered.ensures, puts_place c.put_order-turned.ensures, small.order_few, puts_place c.put_number-processes.ensures, puts_place c.put_number-sized.ensures, small.widths, length-map (vec_items c.args.job.now.widths) g.T.Length.numbers, ap length c.deref.ensures.value)
+    let small = lawful_small (job_fields g.T.Numbered.numbers c.args.job.now) c.requires.lawful in
+    omega (arith, puts_place c.put_number-counted.ensures, puts_place c.put_number-ordered.ensures, puts_place c.put_order-turned.ensures, small.order_few, puts_place c.put_number-processes.ensures, puts_place c.put_number-sized.ensures, small.widths, length-map (vec_items c.args.job.now.widths) g.T.Numbered.numbers, ap length c.deref.ensures.value)
 
 pub overflow_cast-len : goal.overflow_cast-len
 overflow_cast-len g c =
-    let small = lawful_small (job_fields g.T.Length.numbers c.args.job.now) c.requires.lawful in
+    let small = lawful_small (job_fields g.T.Numbered.numbers c.args.job.now) c.requires.lawful in
     omega (arith, small.entries_few, c.len.ensures, c.args.job.now.entries.ok.0)
 
 pub put_number-requires : goal.put_number-requires
 put_number-requires g c =
-    let numbers = g.T.Length.numbers in
-    let few = few_listed numbers g.met.T.Length.counted g.met.T.Length.listed in
+    let numbers = g.T.Numbered.numbers in
+    let few = few_listed numbers g.met.T.Length.counted g.met.T.Numbered.listed in
     let small = lawful_small (job_fields numbers c.args.job.now) c.requires.lawful in
     omega (arith, puts_place c.put_number-counted.ensures, puts_place c.put_number-ordered.ensures, puts_place c.put_order-turned.ensures, small.order_few, puts_place c.put_number-processes.ensures, puts_place c.put_number-sized.ensures, columns_place numbers few c.deref.result.now c.deref-2.result.now c.put_columns-grouped.ensures, small.widths, length-map (vec_items c.args.job.now.widths) numbers, ap length c.deref.ensures.value)
 
 pub returns : goal.returns
 returns g c =
     let V = g.row.T.Denot in
-    let numbers = g.T.Length.numbers in
-    let few = few_listed numbers g.met.T.Length.counted g.met.T.Length.listed in
+    let numbers = g.T.Numbered.numbers in
+    let few = few_listed numbers g.met.T.Length.counted g.met.T.Numbered.listed in
     let small = lawful_small (job_fields numbers c.args.job.now) c.requires.lawful in
     let kind = puts_same (ap (λ (v : ℕ). v ∷ []) (c.number.ensures ∙ ap book_number c.kind_of.ensures)) c.put_number-counted.ensures in
     let turn = puts_same (ap (λ (v : ℕ). v ∷ []) c.number-2.ensures) c.put_number-processes.ensures in

@@ -7,14 +7,14 @@ use Rattle.writing.proofs.job.put_order.Goals as goal
 
 pub put_list-place-requires : goal.put_list-place-requires
 put_list-place-requires g c =
-    let small = lawful_small (job_fields g.T.Length.numbers c.args.job.now) c.requires.lawful in
+    let small = lawful_small (job_fields g.T.Numbered.numbers c.args.job.now) c.requires.lawful in
     let order = subst FewOrder (ap order_fields c.in-SequencePair.is) small.order in
     let first = subst (Few 64) (sym c.deref.ensures.value) order.0 in
     record { room = omega (arith, first.few); small = first.small }
 
 pub put_list-requires : goal.put_list-requires
 put_list-requires g c =
-    let small = lawful_small (job_fields g.T.Length.numbers c.args.job.now) c.requires.lawful in
+    let small = lawful_small (job_fields g.T.Numbered.numbers c.args.job.now) c.requires.lawful in
     let order = subst FewOrder (ap order_fields c.in-SequencePair.is) small.order in
     let first = subst (Few 64) (sym c.deref.ensures.value) order.0 in
     let second = subst (Few 64) (sym c.deref-in-SequencePair.ensures.value) order.1 in
@@ -22,7 +22,7 @@ put_list-requires g c =
 
 pub put_list-requires-in-Slicing : goal.put_list-requires-in-Slicing
 put_list-requires-in-Slicing g c =
-    let small = lawful_small (job_fields g.T.Length.numbers c.args.job.now) c.requires.lawful in
+    let small = lawful_small (job_fields g.T.Numbered.numbers c.args.job.now) c.requires.lawful in
     let order = subst FewOrder (ap order_fields c.in-Slicing.is) small.order in
     let list = subst (Few 127) (sym c.deref-in-Slicing.ensures.value) order in
     record { room = omega (arith, list.few); small = list.small }

@@ -11,7 +11,7 @@ use Rattle.writing.proofs.job.put_up_to.Goals as goal
 pub put_entries-requires : goal.put_entries-requires
 put_entries-requires g c =
     let es = c.deref.result.now in
-    let small = lawful_small (job_fields g.T.Length.numbers c.args.job.now) c.requires.lawful in
+    let small = lawful_small (job_fields g.T.Numbered.numbers c.args.job.now) c.requires.lawful in
     let same : vec_items c.args.job.now.entries ≡ es = sym c.deref.ensures.value in
     record {
       room = omega (arith, c.put_before_entries-place.ensures.few, length-take c.min-entries.result es, small.entries_few, ap length same);

@@ -13,7 +13,7 @@ loop-i-init g c = puts_none c.args.out.now c.args.at
 pub loop-i-preserved : goal.loop-i-preserved
 loop-i-preserved g c =
     let arr = c.to_numbers-numbers.result in
-    let long = ap length c.to_numbers-numbers.ensures ∙ g.met.T.Length.listed c.args.length in
+    let long = ap length c.to_numbers-numbers.ensures ∙ g.met.T.Numbered.listed c.args.length in
     let inside : c.loop-i.i < length arr = omega (arith, long, length-take g.T.Length.count arr, c.count-i-end.ensures) in
     puts_more arr c.loop-i.i inside c.loop-i.invariant c.loop-i.auto.out c.put_number-place.ensures
 

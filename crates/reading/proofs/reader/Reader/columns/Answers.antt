@@ -8,7 +8,7 @@ use Rattle.reading.proofs.reader.Reader.columns.Goals as goal
 
 pub loop-cell-init : goal.loop-cell-init
 loop-cell-init g c =
-    let numbers = g.T.Length.numbers in
+    let numbers = g.T.Numbered.numbers in
     let us = ap (map numbers) c.new-firsts.ensures.items in
     let vs = ap (map numbers) c.new-seconds.ensures.items in
     (refl, ap length us, all_left (λ (k : ℕ) (d : Columns). columns (rule_of c.args.allowed) g.T.Length.count k d c.args.self.now.bytes.now c.args.self.now.at) c.args.n (ap (λ (x : List (List ℕ)). both_columns x (map numbers (vec_items c.new-seconds.result))) us ∙ ap (both_columns []) vs))
@@ -21,7 +21,7 @@ returns-in_err-first g c =
     let here = re_read (λ (_ : ℕ) (s : List ℕ). one_length rule k c.loop-cell.cell Width s c.loop-cell.self.at) {before = 0} refl c.loop-cell.invariant.0 told.told in
     record {
       same = told.same ∙ c.loop-cell.invariant.0;
-      told = refused_by _ _ _ _ c.from_residual.ensures.1 (c.loop-cell.invariant.2 ∙ first_fails rule k c.args.n c.loop-cell.cell (map g.T.Length.numbers (vec_items c.loop-cell.firsts)) (map g.T.Length.numbers (vec_items c.loop-cell.seconds)) c.args.self.now.bytes.now c.loop-cell.self.at c.loop-cell.invariant.1 _ c.loop-cell-test.true here);
+      told = refused_by _ _ _ _ c.from_residual.ensures.1 (c.loop-cell.invariant.2 ∙ first_fails rule k c.args.n c.loop-cell.cell (map g.T.Numbered.numbers (vec_items c.loop-cell.firsts)) (map g.T.Numbered.numbers (vec_items c.loop-cell.seconds)) c.args.self.now.bytes.now c.loop-cell.self.at c.loop-cell.invariant.1 _ c.loop-cell-test.true here);
     }
 
 pub returns-in_err-second : goal.returns-in_err-second
@@ -35,14 +35,14 @@ returns-in_err-second g c =
     let high = re_read (λ (_ : ℕ) (s : List ℕ). one_length rule k c.loop-cell.cell Height s c.length.new.self.at) {before = 0} refl same told.told in
     record {
       same = told.same ∙ same;
-      told = refused_by _ _ _ _ c.from_residual-in_err-second.ensures.1 (c.loop-cell.invariant.2 ∙ second_fails rule k c.args.n c.loop-cell.cell (map g.T.Length.numbers (vec_items c.loop-cell.firsts)) (map g.T.Length.numbers (vec_items c.loop-cell.seconds)) c.args.self.now.bytes.now c.loop-cell.self.at c.loop-cell.invariant.1 (g.T.Length.numbers c.in_ok-first.first) c.length.new.self.at c.loop-cell-test.true wide _ high);
+      told = refused_by _ _ _ _ c.from_residual-in_err-second.ensures.1 (c.loop-cell.invariant.2 ∙ second_fails rule k c.args.n c.loop-cell.cell (map g.T.Numbered.numbers (vec_items c.loop-cell.firsts)) (map g.T.Numbered.numbers (vec_items c.loop-cell.seconds)) c.args.self.now.bytes.now c.loop-cell.self.at c.loop-cell.invariant.1 (g.T.Numbered.numbers c.in_ok-first.first) c.length.new.self.at c.loop-cell-test.true wide _ high);
     }
 
 pub loop-cell-preserved : goal.loop-cell-preserved
 loop-cell-preserved g c =
     let rule = rule_of c.args.allowed in
     let k = g.T.Length.count in
-    let numbers = g.T.Length.numbers in
+    let numbers = g.T.Numbered.numbers in
     let cell = c.loop-cell.cell in
     let us = map numbers (vec_items c.loop-cell.firsts) in
     let vs = map numbers (vec_items c.loop-cell.seconds) in
@@ -66,5 +66,5 @@ loop-cell-preserved g c =
 pub returns : goal.returns
 returns g c = record {
   same = c.loop-cell.invariant.0;
-  told = c.loop-cell.invariant.2 ∙ columns_done (rule_of c.args.allowed) g.T.Length.count c.args.n c.loop-cell.cell (both_columns (map g.T.Length.numbers (vec_items c.loop-cell.firsts)) (map g.T.Length.numbers (vec_items c.loop-cell.seconds))) c.args.self.now.bytes.now c.loop-cell.self.at c.loop-cell-test.false;
+  told = c.loop-cell.invariant.2 ∙ columns_done (rule_of c.args.allowed) g.T.Length.count c.args.n c.loop-cell.cell (both_columns (map g.T.Numbered.numbers (vec_items c.loop-cell.firsts)) (map g.T.Numbered.numbers (vec_items c.loop-cell.seconds))) c.args.self.now.bytes.now c.loop-cell.self.at c.loop-cell-test.false;
 }

@@ -8,5 +8,5 @@ use Rattle.reading.proofs.reader.Reader.columns.Given as goal
 abbrev pub invariant-loop-cell : goal.invariant-loop-cell
 invariant-loop-cell g l =
     (l.self.bytes.now ≡ l.initial.self.bytes.now)
-    × (length (map g.T.Length.numbers (vec_items l.firsts)) ≡ l.cell)
-    × (columns (rule_of l.allowed) g.T.Length.count l.n no_columns l.initial.self.bytes.now l.initial.self.at ≡ columns (rule_of l.allowed) g.T.Length.count (l.n - l.cell) (both_columns (map g.T.Length.numbers (vec_items l.firsts)) (map g.T.Length.numbers (vec_items l.seconds))) l.initial.self.bytes.now l.self.at)
+    × (length (map g.T.Numbered.numbers (vec_items l.firsts)) ≡ l.cell)
+    × (columns (rule_of l.allowed) g.T.Length.count l.n no_columns l.initial.self.bytes.now l.initial.self.at ≡ columns (rule_of l.allowed) g.T.Length.count (l.n - l.cell) (both_columns (map g.T.Numbered.numbers (vec_items l.firsts)) (map g.T.Numbered.numbers (vec_items l.seconds))) l.initial.self.bytes.now l.self.at)

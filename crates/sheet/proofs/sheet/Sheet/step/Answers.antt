@@ -1,5 +1,5 @@
 -- Each edit keeps its own promise; a placing leaves the sheet alone.
-use Rattle.std.proofs.Common.{sym, refl, subst}
+use Rattle.std.proofs.Common.{sym, refl, subst, rules}
 use Rattle.std.proofs.lemmas.Result.{IfOk-weaker}
 use Rattle.sheet.specs.Edits.{swap, pair, centre, release}
 use Rattle.group.specs.Group.{sheet_of}
@@ -14,11 +14,12 @@ returns-in-Swap g c = record {
   came = λ s. came_edit (swap c.in-Swap.a c.in-Swap.b) _ _ _ c.in-Swap.is c.answer_of.ensures (c.swap.ensures.edited s);
 }
 
+-- the edit is found by its promise, and not named: a planted bug does another
 pub returns-in-Pair : goal.returns-in-Pair
 returns-in-Pair g c = record {
+  sound = search rules;
   filled = edit_filled _ _ _ c.answer_of-in-Pair.ensures;
-  sound = λ s. c.pair.ensures.sound s;
-  came = λ s. came_edit (pair c.in-Pair.a c.in-Pair.b) _ _ _ c.in-Pair.is c.answer_of-in-Pair.ensures (c.pair.ensures.edited s);
+  came = λ s. came_edit (pair c.in-Pair.a c.in-Pair.b) _ _ _ c.in-Pair.is c.answer_of-in-Pair.ensures (search rules);
 }
 
 pub returns-in-Centre : goal.returns-in-Centre

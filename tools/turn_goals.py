@@ -28,9 +28,6 @@ def main(names):
     turn.update({i.replace("_", "-"): i for i in idents})
     known = sorted(turn, key=len, reverse=True)
     word = re.compile(r"(?<![^-])(" + "|".join(map(re.escape, known)) + r")(?![^-])")
-    lib = set()
-    for p in glob.glob("crates/*/specs/**/*.antt", recursive=True) + [q for q in glob.glob("crates/*/proofs/**/*.antt", recursive=True) if os.path.basename(q) not in ("Answers.antt", "Invariants.antt")]:
-        lib.update(TOKEN.findall(open(p, encoding="utf-8").read()))
     for p in glob.glob("crates/*/proofs/**/*.antt", recursive=True):
         if os.path.basename(p) not in ("Answers.antt", "Invariants.antt") or (names and p.split("/")[1] not in names):
             continue

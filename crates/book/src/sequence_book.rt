@@ -5,7 +5,7 @@ ghost use Rattle.book.specs.Counts.{FirstWith};
 ghost use Rattle.book.specs.Rows.{Breaks, Row, Rows, NoRows};
 ghost use Rattle.book.specs.Places.{compared, by_places};
 ghost use Rattle.book.specs.Sequence.{sequence_order, Inverse, BreaksAt};
-ghost use Rattle.std.proofs.Common.{rules, arith};
+ghost use Rattle.std.proofs.Common.{rules};
 
 use crate::book::{Book, within};
 use crate::relation::{MOST_CELLS, Relation};
@@ -83,7 +83,7 @@ impl SequencePair {
 impl Book for SequencePair {
     ghost order = { sequence_order };
 
-    ghost lawful = { first_of (Prim.search rules, Prim.grind (arith, Self.row.coded.inj)) };
+    ghost lawful = { Prim.search rules };
 
     fn count(&self) -> usize {
         self.count

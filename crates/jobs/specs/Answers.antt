@@ -1,5 +1,5 @@
 -- What a job file comes to: a placement file, or the file of the first refusal.
-use Rattle.std.specs.Prelude.{◌≡◌, ℕ, ◌+◌, cond, List, [], ◌∷◌, map, length, Ok, Err, vec_items, All}
+use Rattle.std.specs.Prelude.{◌≡◌, ℕ, ◌+◌, cond, List, [], ◌∷◌, map, Ok, Err, vec_items, All}
 use Rattle.refusal.specs.declared.fault.FieldFault.{FieldFault}
 use Rattle.refusal.specs.declared.fault.SheetFault.TheVariants as sheet
 use Rattle.refusal.specs.Register.{field_told, sheet_told}
@@ -33,18 +33,6 @@ placement_said numbers j c = record {
   x = cond (exchanges j.turn) (map numbers (vec_items c.y)) (map numbers (vec_items c.x));
   y = cond (exchanges j.turn) (map numbers (vec_items c.x)) (map numbers (vec_items c.y));
 }
-
--- a placing filled lists of n left edges and n bottoms
-pub record Filled {V : Type 0} (n : ℕ) (c : Coordinates V) : Type 0 where
-  pub x_length : length (vec_items c.x) ≡ n
-  pub y_length : length (vec_items c.y) ≡ n
-
--- and so did every placing of a run
-abbrev pub AllFilled : {V : Type 0} → ℕ → List (Answer V) → Type 0
-AllFilled n [] = Unit {0}
-AllFilled n (answer.Edited ∷ rest) = AllFilled n rest
-AllFilled n (answer.Refused _ ∷ rest) = AllFilled n rest
-AllFilled n (answer.Placed c ∷ rest) = Filled n c × AllFilled n rest
 
 -- the file that tells what the steps of a job came to, from step i on: the first refusal, or the placement
 abbrev pub told : {V : Type 0} → (V → List ℕ) → JobFields → ℕ → List (Answer V) → List ℕ

@@ -1,11 +1,12 @@
 //! The files that tell what a job came to.
-ghost use Rattle.std.specs.Prelude.{◌≡◌, cond, ◌++◌, length, IfOk, Ok, OnOk};
+ghost use Rattle.std.specs.Prelude.{◌≡◌, cond, ◌++◌, length, IfOk, Ok, OnOk, All};
 ghost use Rattle.numbers.specs.Number.{encode, encode_all};
 ghost use Rattle.formats.specs.Files as said;
 ghost use Rattle.formats.specs.Held.{job_fields, placement_fields};
 ghost use Rattle.formats.specs.Writing as file;
 ghost use Rattle.jobs.specs.Refusals as refused;
-ghost use Rattle.jobs.specs.Answers.{told, placement_said, Filled, AllFilled};
+ghost use Rattle.sheet.specs.Runs.{Filled, IsFilled};
+ghost use Rattle.jobs.specs.Answers.{told, placement_said};
 
 use formats::{Entry, Job, Placement};
 use length::{Length, Numbered};
@@ -180,7 +181,7 @@ pub(crate) fn tell<T: Numbered>(
     answers: &[Answer<T>],
 ) -> Result<Vec<u8>, AllocError>
     requires lawful { file.job_check (job_fields T.Numbered.numbers job.now) ≡ Ok tt }
-    requires filled { AllFilled job.now.count answers.now }
+    requires filled { All (IsFilled job.now.count) answers.now }
     ensures { IfOk result (λ v. v.items ≡ told T.Numbered.numbers (job_fields T.Numbered.numbers job.now) 0 answers.now) }
 {
     for (step, answer) in answers.iter().enumerate() {

@@ -1,19 +1,17 @@
-use Rattle.std.proofs.Common.{ℕ, List, vec_items, sym, ap, ◌∙◌, subst}
+use Rattle.std.proofs.Common.{ℕ, List, vec_items, All, sym, ap, ◌∙◌, subst}
 use Rattle.std.proofs.lemmas.Result.{IfOk-weaker}
 use Rattle.sheet.specs.declared.steps.Step.{Step}
-use Rattle.sheet.specs.Runs.{WholeRun}
+use Rattle.sheet.specs.Runs.{WholeRun, IsFilled}
 use Rattle.formats.specs.Held.{job_fields}
-use Rattle.jobs.specs.Answers.{AllFilled, told}
-use Rattle.jobs.proofs.Filling.{run_fills}
+use Rattle.jobs.specs.Answers.{told}
 use Rattle.jobs.proofs.InOrder.{run_in_order}
 use Rattle.jobs.proofs.answering.answer_on.Goals as goal
 
 pub tell-requires : goal.tell-requires
 tell-requires g c =
-    let filled = c.in_ok-answers.ensures.filled in
     record {
       lawful = c.requires.lawful;
-      filled = subst (AllFilled c.args.job.now.count) (sym c.deref-2.ensures.value) (subst (λ (n : ℕ). AllFilled n (vec_items c.in_ok-answers.answers)) c.requires.counted (run_fills _ _ filled));
+      filled = subst (All (IsFilled c.args.job.now.count)) (sym c.deref-2.ensures.value) (subst (λ (n : ℕ). All (IsFilled n) (vec_items c.in_ok-answers.answers)) c.requires.counted c.in_ok-answers.ensures.filled);
     }
 
 pub returns : goal.returns

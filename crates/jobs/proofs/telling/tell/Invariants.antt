@@ -1,10 +1,9 @@
 -- Every step so far was an edit that was done.
 use Rattle.std.proofs.Common.{◌≡◌, drop}
 use Rattle.formats.specs.Held.{job_fields}
-use Rattle.jobs.specs.Answers.{told, AllFilled}
+use Rattle.jobs.specs.Answers.{told}
 use Rattle.jobs.proofs.telling.tell.Given as goal
 
 abbrev pub invariant-loop-step : goal.invariant-loop-step
 invariant-loop-step g l =
-    (told g.T.Numbered.numbers (job_fields g.T.Numbered.numbers l.job) 0 l.answers ≡ told g.T.Numbered.numbers (job_fields g.T.Numbered.numbers l.job) l.step (drop l.step l.answers))
-    × AllFilled l.job.count (drop l.step l.answers)
+    told g.T.Numbered.numbers (job_fields g.T.Numbered.numbers l.job) 0 l.answers ≡ told g.T.Numbered.numbers (job_fields g.T.Numbered.numbers l.job) l.step (drop l.step l.answers)

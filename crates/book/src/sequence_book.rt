@@ -7,7 +7,7 @@ ghost use Rattle.book.specs.Places.{compared, by_places};
 ghost use Rattle.book.specs.Sequence.{sequence_order, Inverse, BreaksAt};
 ghost use Rattle.std.proofs.Common.{rules};
 
-use crate::book::{Book, within};
+use crate::book::{Book, countable, within};
 use crate::relation::{MOST_CELLS, Relation};
 use crate::sequence_pair::SequencePair;
 use refusal::{FieldFault, SheetFault};
@@ -53,9 +53,7 @@ impl SequencePair {
     pub fn new(n: usize, first: &[usize], second: &[usize]) -> Result<SequencePair, SheetFault>
         ensures { MatchResult result (λ s. Rows n first.now second.now (sequence_order s)) (λ f. NoRows n first.now second.now f) }
     {
-        if n == 0 || n > MOST_CELLS {
-            return Err(SheetFault::Field(FieldFault::CellCount { at: 0, count: n }));
-        }
+        countable(n)?;
         if first.len() != n {
             return Err(SheetFault::ListLength { list: 1 });
         }

@@ -29,7 +29,7 @@ impl Slicing {
             return Err(SheetFault::ListLength { list: 1 });
         }
         let rows = read_expression(n, expression)?;
-        let pair = SequencePair::new(n, &rows.first[0..n], &rows.second[0..n])?;
+        let pair = SequencePair::new(n, &rows.first, &rows.second)?;
         Ok(Slicing { pair })
     }
 

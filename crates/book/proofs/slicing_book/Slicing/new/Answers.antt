@@ -4,7 +4,7 @@ use Rattle.std.proofs.Common.{sym, subst, arith}
 use Rattle.refusal.specs.declared.fault.SheetFault.TheVariants as sheet
 use Rattle.book.specs.Slicing.{NoExpression, bad_count, wrong_length, breaks}
 use Rattle.book.proofs.Exits.{exit_with}
-use Rattle.book.proofs.Trees.{whole_first, whole_second, whole_expression, rows_lawful}
+use Rattle.book.proofs.Trees.{whole_expression, whole_lawful}
 use Rattle.book.proofs.slicing_book.Slicing.new.Goals as goal
 
 pub returns-in_err-countable : goal.returns-in_err-countable
@@ -26,11 +26,7 @@ returns-in_err-rows c =
 
 pub returns-in_err-pair : goal.returns-in_err-pair
 returns-in_err-pair c =
-    let n = c.args.n in
-    let expr = c.args.expression.now in
-    let rows = c.in_ok-rows.rows in
-    let whole = c.in_ok-rows.ensures in
-    absurd (rows_lawful c.in_ok-countable.ensures (whole_first n expr rows whole) (whole_second n expr rows whole) c.in_err-pair.ensures)
+    absurd (whole_lawful c.args.n c.args.expression.now c.in_ok-rows.rows c.in_ok-rows.ensures _ _ c.deref.ensures.0 c.deref-2.ensures.0 c.in_ok-countable.ensures c.in_err-pair.ensures)
 
 pub returns : goal.returns
-returns c = whole_expression c.args.n c.args.expression.now c.in_ok-rows.rows c.in_ok-rows.ensures _ c.in_ok-pair.ensures
+returns c = whole_expression c.args.n c.args.expression.now c.in_ok-rows.rows c.in_ok-rows.ensures _ _ c.deref.ensures.0 c.deref-2.ensures.0 _ c.in_ok-pair.ensures

@@ -1,5 +1,5 @@
 -- What the exit of a `?` hands on: what is said of a result holds where it holds of the one error that comes out.
-use Rattle.std.proofs.Common.{◌≡◌, IsErrAnd, Some, None, Option, Ok, Err, Result, sym, refl, ap, ◌∙◌, subst, MatchOption, MatchResult}
+use Rattle.std.proofs.Common.{◌≡◌, IsErrAnd, Some, None, Option, Err, Result, sym, refl, ap, ◌∙◌, subst, MatchOption, MatchResult}
 use Rattle.std.specs.Option.{ok_or}
 use Rattle.std.proofs.lemmas.Result.{err_from_is_err_and}
 

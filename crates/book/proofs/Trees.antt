@@ -1,5 +1,5 @@
 -- A part and its two rows: what the part tells of two cells, the rows tell, and nothing else.
-use Rattle.std.proofs.Common.{◌≡◌, ℕ, ◌-◌, ◌<◌, List, [], ◌∷◌, ◌++◌, length, take, sym, refl, ap, ◌∙◌, subst, inl, inr, ⊎_elim, arith}
+use Rattle.std.proofs.Common.{◌≡◌, ℕ, ◌<◌, List, [], ◌∷◌, ◌++◌, length, sym, refl, ◌∙◌, subst, inl, inr, ⊎_elim, arith}
 use Rattle.refusal.specs.declared.fault.SheetFault.{SheetFault}
 use Rattle.book.specs.declared.relation.Relation.{Relation}
 use Rattle.book.specs.declared.slicing.Waiting.{Waiting}

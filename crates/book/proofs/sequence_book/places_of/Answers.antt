@@ -1,4 +1,4 @@
-use Rattle.std.proofs.Common.{◌≡◌, ◌<◌, ◌≤◌, ◌⊎◌, ◌≢◌, get_or, refl, arith, rules}
+use Rattle.std.proofs.Common.{◌<◌, ◌≤◌, ◌⊎◌, ◌≢◌, get_or, refl, arith, rules}
 use Rattle.book.specs.Order.{most_cells}
 use Rattle.book.proofs.Tables.{table_none, table_more, first_break, table_whole}
 use Rattle.book.proofs.sequence_book.places_of.Goals as goal

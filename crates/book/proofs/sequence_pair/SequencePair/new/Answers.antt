@@ -1,9 +1,9 @@
 -- Each refusal by the test or the row that caused it; the book by its two rows turned round.
-use Rattle.std.proofs.Common.{sym, refl, subst, arith}
+use Rattle.std.proofs.Common.{sym, refl, subst}
 use Rattle.refusal.specs.declared.fault.SheetFault.TheVariants as sheet
 use Rattle.book.specs.Rows.{NoRows, bad_count, first_length, second_length, first_breaks, second_breaks}
 use Rattle.book.proofs.Exits.{exit_with}
-use Rattle.book.proofs.Inverses.{inverse_row, inverse_within, inverse_once, told_by_places}
+use Rattle.book.proofs.Inverses.{inverse_row, inverse_places, told_by_places}
 use Rattle.book.proofs.sequence_pair.SequencePair.new.Goals as goal
 
 pub returns-in_err-countable : goal.returns-in_err-countable
@@ -38,24 +38,12 @@ returns-in_err-second c =
     (subst (λ x. NoRows n first second (sheet.Field x)) (sym f.2) (second_breaks c.in_ok-countable.ensures (inverse_row n first c.in_ok-first.first c.if-first-n.false c.in_ok-first.ensures) c.if-second-n.false f.1))
 
 pub invariant_of-result : goal.invariant_of-result
-invariant_of-result c =
-    let n = c.args.n in
-    let first = c.args.first.now in
-    let second = c.args.second.now in
-    let p = c.in_ok-first.first in
-    let q = c.in_ok-second.second in
-    let one = c.in_ok-first.ensures in
-    let two = c.in_ok-second.ensures in
-    record {
-      some = c.in_ok-countable.ensures.0;
-      few = c.in_ok-countable.ensures.1;
-      first_long = one.long;
-      second_long = two.long;
-      first_in = inverse_within n first p c.if-first-n.false one;
-      first_once = inverse_once n first p c.if-first-n.false one;
-      second_in = inverse_within n second q c.if-second-n.false two;
-      second_once = inverse_once n second q c.if-second-n.false two;
-    }
+invariant_of-result c = record {
+  some = c.in_ok-countable.ensures.0;
+  few = c.in_ok-countable.ensures.1;
+  first_row = inverse_places c.args.n c.args.first.now c.in_ok-first.first c.if-first-n.false c.in_ok-first.ensures;
+  second_row = inverse_places c.args.n c.args.second.now c.in_ok-second.second c.if-second-n.false c.in_ok-second.ensures;
+}
 
 pub returns : goal.returns
 returns c =

@@ -29,8 +29,8 @@ pub returns-then-number-n-2 : goal.returns-then-number-n-2
 returns-then-number-n-2 c ps h once =
     let parts = parts_begin ps c.args.self.now h in
     elim c.then-number-n-2.branch [
-      then-number-n-2-via-then-number-n-2 w ↦ (unknown w.if-number-n-2.true, refl)
-    | then-number-n-2-via-else-number-n-2+then-len-lt-JOINED w ↦ (alone c.if-number-n.false (omega arith), refl)
+      | then-number-n-2-via-then-number-n-2 w ↦ (unknown w.if-number-n-2.true, refl)
+      | then-number-n-2-via-else-number-n-2+then-len-lt-JOINED w ↦ (alone c.if-number-n.false (omega arith), refl)
     ]
 
 pub stack-requires : goal.stack-requires

@@ -1,4 +1,3 @@
-use Rattle.std.proofs.Common.{ap, ◌∙◌}
 use Rattle.book.proofs.Holding.{stack_holds}
 use Rattle.book.proofs.slicing.Waiting.stack.Goals as goal
 

@@ -1,9 +1,7 @@
 -- The rows of waiting parts: what one cell more, a side join and a stack make of them.
 use Rattle.std.proofs.Common.{◌≡◌, ℕ, ◌-◌, ◌≤◌, Bool, eqb, List, [], ◌∷◌, ◌++◌, length, get_or, take, drop, Decides, sym, refl, ap, ◌∙◌, subst, append_assoc, append-nil, arith, length-append, length-drop}
 use borrow.Rule.Slice.PartMut.{mid_of, put_mid}
-use Rattle.std.proofs.lemmas.List.{length_push, get_or_push, get_or_append_left, take_at, take_all, drop_at, drop_all, get_or_default}
-use Rattle.std.proofs.lemmas.List.Elements.{contains_decides}
-use Rattle.std.proofs.lemmas.Bool.Decides.{Decides-like, Decides-eqb}
+use Rattle.std.proofs.lemmas.List.{length_push, get_or_push, get_or_append_left, take_at, take_all, drop_at, drop_all}
 use Rattle.std.specs.List.{IsAnyAnswer}
 use Rattle.arrayvec.specs.ArrayVec.{ArrayVec, with_items}
 use Rattle.arrayvec.proofs.ArrayVecLemmas.{items-with_items}
@@ -12,7 +10,7 @@ use Rattle.book.specs.Order.{most_cells}
 use Rattle.book.specs.Rows.{Breaks}
 use Rattle.book.specs.Slicing.{Part, cell, beside, stacked, leaves, Read}
 use Rattle.book.specs.Waiting.{upper, in_row, begins, Holds, Roomy, Stackable, Once}
-use Rattle.book.proofs.Standing.{Stands, once_at_most}
+use Rattle.book.proofs.Standing.{Stands, found_stands, once_at_most}
 use Rattle.book.proofs.Trees.{upper_length}
 
 some_leaf : (p : Part) → 1 ≤ length (leaves p)
@@ -173,10 +171,8 @@ room_for_one n k ps w few h once =
     record { starts = omega arith; first = omega arith; second = omega arith }
 
 -- what a search of the second row finds
-pub found_stands : (k : ℕ) (ps : List Part) (w : Waiting) (row : List ℕ) (found : Bool) → Holds ps w → row ≡ w.second.items → IsAnyAnswer (λ y t. eqb y k ≡ t) row found → Decides found (Stands (in_row leaves ps) k)
-found_stands k ps w row found h is some =
-    Decides-like found (λ r. (r.0, r.1, r.2 0)) (λ s. (s.0, s.1, λ d. get_or_default (in_row leaves ps) s.0 d 0 s.1 ∙ s.2))
-    (contains_decides eqb Decides-eqb (in_row leaves ps) k found (subst (λ xs. IsAnyAnswer (λ y t. eqb y k ≡ t) xs found) (is ∙ h.second) some))
+pub found_waits : (k : ℕ) (ps : List Part) (w : Waiting) (row : List ℕ) (found : Bool) → Holds ps w → row ≡ w.second.items → IsAnyAnswer (λ y t. eqb y k ≡ t) row found → Decides found (Stands (in_row leaves ps) k)
+found_waits k ps w row found h is some = subst (λ xs. Decides found (Stands xs k)) (is ∙ h.second) (found_stands k row found some)
 
 -- a join reads the last two parts as one
 module _ (n k : ℕ) (join : Part → Part → Part) (lays : (p q : Part) → leaves (join p q) ≡ leaves p ++ leaves q)

@@ -1,6 +1,9 @@
 -- Rows as lists: where a number stands, that none stands twice, and what two rows keep when one is put after the other.
-use Rattle.std.proofs.Common.{◌≡◌, ℕ, zero, suc, ◌+◌, ◌-◌, ◌<◌, ◌≤◌, ◌⊎◌, List, [], ◌∷◌, ◌++◌, length, get_or, sym, refl, ◌∙◌, inl, inr, ⊎_elim, add_comm, arith, length-append}
-use Rattle.std.proofs.lemmas.List.{get_or_append_left, get_or-append-add, get_or-append_right}
+use Rattle.std.proofs.Common.{◌≡◌, ℕ, zero, suc, ◌+◌, ◌-◌, ◌<◌, ◌≤◌, ◌⊎◌, Bool, eqb, List, [], ◌∷◌, ◌++◌, length, get_or, take, Decides, sym, refl, ◌∙◌, inl, inr, ⊎_elim, add_comm, arith, length-append, length-take}
+use Rattle.std.proofs.lemmas.List.{get_or_append_left, get_or-append-add, get_or-append_right, get_or-take, get_or_default}
+use Rattle.std.proofs.lemmas.List.Elements.{contains_decides}
+use Rattle.std.proofs.lemmas.Bool.Decides.{Decides-like, Decides-eqb}
+use Rattle.std.specs.List.{IsAnyAnswer}
 use Rattle.std.proofs.lemmas.Bool.{cases_lt, cases_order}
 use Rattle.book.specs.Rows.{Earlier, Breaks, Row}
 use Rattle.book.proofs.Pigeonhole.{pigeonhole, onto}
@@ -11,6 +14,23 @@ Stands row a = (i : ℕ) × (i < length row) × (get_or row i 0 ≡ a)
 -- no number stands twice
 abbrev pub Single : List ℕ → Type 0
 Single row = (i j : ℕ) → i < length row → j < length row → get_or row i 0 ≡ get_or row j 0 → i ≡ j
+
+-- a number at a place before i stands among the first i, and the other way round
+pub stands_before : (row : List ℕ) (i j : ℕ) {a : ℕ} → j < i → i < length row → get_or row j 0 ≡ a → Stands (take i row) a
+stands_before row i j h at e = let l = length-take i row in (j, omega arith, get_or-take i row j 0 h ∙ e)
+
+pub before_stands : (row : List ℕ) (i : ℕ) {a : ℕ} → i < length row → Stands (take i row) a → (j : ℕ) × (j < i) × (get_or row j 0 ≡ a)
+before_stands row i at s =
+    let l = length-take i row in
+    let k = s.1 in
+    let low : s.0 < i = omega arith in
+    (s.0, low, sym (get_or-take i row s.0 0 low) ∙ s.2)
+
+-- what a search of a row finds
+pub found_stands : (k : ℕ) (row : List ℕ) (found : Bool) → IsAnyAnswer (λ y t. eqb y k ≡ t) row found → Decides found (Stands row k)
+found_stands k row found some =
+    Decides-like found (λ r. (r.0, r.1, r.2 0)) (λ s. (s.0, s.1, λ d. get_or_default row s.0 d 0 s.1 ∙ s.2))
+    (contains_decides eqb Decides-eqb row k found some)
 
 -- One row after another
 

@@ -1,5 +1,5 @@
 //! The slicing book: filling, questions, swaps.
-ghost use Rattle.std.specs.Prelude.{◌≡◌, Ok, Err, MatchResult};
+ghost use Rattle.std.specs.Prelude.{◌≡◌, MatchResult};
 ghost use Rattle.book.specs.Sequence.{sequence_order};
 ghost use Rattle.book.specs.Slicing.{Expression, NoExpression, ExpressionNeverRefused, BesideEarlierIsLeft, StackedLaterIsAbove};
 ghost use Rattle.std.proofs.Common.{rules};

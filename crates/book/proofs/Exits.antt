@@ -11,6 +11,10 @@ exit_at {T} {E} P r e out p =
 pub exit_with : {T E : Type 0} (P : T → Type 0) (Q : E → Type 0) (r : Result T E) (e : E) → IsErrAnd r (λ y. y ≡ e) → Q e → MatchResult r P Q
 exit_with {T} {E} P Q = exit_at (λ (o : Result T E). MatchResult o P Q)
 
+-- the same, where the error that comes out is known
+pub exit_told : {T E : Type 0} (P : T → Type 0) (Q : E → Type 0) (r : Result T E) (e k : E) → IsErrAnd r (λ y. y ≡ e) → e ≡ k → Q k → MatchResult r P Q
+exit_told P Q r e k out is q = exit_with P Q r e out (subst Q (sym is) q)
+
 -- what is said of an option holds of the result that `ok_or` makes of it
 pub ok_or_told : {T E : Type 0} (P : T → Type 0) (Q : Type 0) (o : Option T) (e : E) (r : Result T E) → r ≡ ok_or o e → MatchOption o Q P → MatchResult r P (λ f. (f ≡ e) × Q)
 ok_or_told P Q None e r is q = subst (λ x. MatchResult x P (λ f. (f ≡ e) × Q)) (sym is) (refl, q)

@@ -44,15 +44,7 @@ module _ (xs ys : List ℕ) (a b : ℕ) (at_a : (d : ℕ) → get_or ys a d ≡ 
     (elsewhere : (k d : ℕ) → (k ≡ a → ⊥) → (k ≡ b → ⊥) → get_or ys k d ≡ get_or xs k d)
   where
     pub traded : (x : ℕ) → get_or ys x 0 ≡ get_or xs (trade a b x) 0
-    traded x =
-        ⊎_elim
-        (λ p. let e : trade a b x ≡ b = simp p.0 in ap (λ k. get_or ys k 0) p.1 ∙ at_a 0 ∙ ap (λ k. get_or xs k 0) (sym e))
-        (λ p.
-        ⊎_elim
-        (λ q. let e : trade a b x ≡ a = simp (p.0, q.0) in ap (λ k. get_or ys k 0) q.1 ∙ at_b 0 ∙ ap (λ k. get_or xs k 0) (sym e))
-        (λ q. let e : trade a b x ≡ x = simp (p.0, q.0) in elsewhere x 0 p.1 q.1 ∙ ap (λ k. get_or xs k 0) (sym e))
-        (eqb_tells x b))
-        (eqb_tells x a)
+    traded x = grind (arith, nat_tests, at_a, at_b, elsewhere)
 
     pub traded_places : (n : ℕ) → a < n → b < n → length ys ≡ length xs → Places n xs → Places n ys
     traded_places n p q same was = record {

@@ -58,7 +58,7 @@ impl Waiting {
         let parts = self.starts.len();
         let earlier = self.starts[parts - 2];
         let later = self.starts[parts - 1];
-        self.first.as_mut_slice()[earlier..].rotate_left(later - earlier);
+        self.first[earlier..].rotate_left(later - earlier);
         self.starts.pop();
     }
 

@@ -1,17 +1,15 @@
 -- Each refusal by the test or the row that caused it; the book by its two rows turned round.
-use Rattle.std.proofs.Common.{sym, refl, subst}
+use Rattle.std.proofs.Common.{refl, ap}
 use Rattle.refusal.specs.declared.fault.SheetFault.TheVariants as sheet
 use Rattle.book.specs.Rows.{NoRows, bad_count, first_length, second_length, first_breaks, second_breaks}
-use Rattle.book.proofs.Exits.{exit_with}
+use Rattle.book.proofs.Exits.{exit_told}
 use Rattle.book.proofs.Inverses.{inverse_row, inverse_places, told_by_places}
 use Rattle.book.proofs.sequence_pair.SequencePair.new.Goals as goal
 
 pub returns-in_err-countable : goal.returns-in_err-countable
 returns-in_err-countable c =
-    let n = c.args.n in
-    let no_rows = NoRows n c.args.first.now c.args.second.now in
     let f = c.in_err-countable.ensures in
-    exit_with _ no_rows c.from_residual.result c.in_err-countable.field-0.0 c.from_residual.ensures.1 (subst no_rows (sym f.told) (bad_count f.out))
+    exit_told _ (NoRows c.args.n c.args.first.now c.args.second.now) c.from_residual.result _ _ c.from_residual.ensures.1 f.told (bad_count f.out)
 
 pub returns-then-first-n : goal.returns-then-first-n
 returns-then-first-n c = first_length c.in_ok-countable.ensures c.if-first-n.true
@@ -21,21 +19,16 @@ returns-then-second-n c = second_length c.in_ok-countable.ensures c.if-first-n.f
 
 pub returns-in_err-first : goal.returns-in_err-first
 returns-in_err-first c =
-    let n = c.args.n in
-    let first = c.args.first.now in
-    let second = c.args.second.now in
     let f = c.in_err-first.ensures in
-    exit_with _ (NoRows n first second) c.from_residual-in_err-first.result (sheet.Field c.in_err-first.field-0.0) c.from_residual-in_err-first.ensures.1
-    (subst (λ x. NoRows n first second (sheet.Field x)) (sym f.2) (first_breaks c.in_ok-countable.ensures c.if-first-n.false c.if-second-n.false f.1))
+    exit_told _ (NoRows c.args.n c.args.first.now c.args.second.now) c.from_residual-in_err-first.result _ _ c.from_residual-in_err-first.ensures.1 (ap sheet.Field f.2)
+    (first_breaks c.in_ok-countable.ensures c.if-first-n.false c.if-second-n.false f.1)
 
 pub returns-in_err-second : goal.returns-in_err-second
 returns-in_err-second c =
-    let n = c.args.n in
-    let first = c.args.first.now in
-    let second = c.args.second.now in
     let f = c.in_err-second.ensures in
-    exit_with _ (NoRows n first second) c.from_residual-in_err-second.result (sheet.Field c.in_err-second.field-0.0) c.from_residual-in_err-second.ensures.1
-    (subst (λ x. NoRows n first second (sheet.Field x)) (sym f.2) (second_breaks c.in_ok-countable.ensures (inverse_row n first c.in_ok-first.first c.if-first-n.false c.in_ok-first.ensures) c.if-second-n.false f.1))
+    let first_row = inverse_row c.args.n c.args.first.now c.in_ok-first.first c.if-first-n.false c.in_ok-first.ensures in
+    exit_told _ (NoRows c.args.n c.args.first.now c.args.second.now) c.from_residual-in_err-second.result _ _ c.from_residual-in_err-second.ensures.1 (ap sheet.Field f.2)
+    (second_breaks c.in_ok-countable.ensures first_row c.if-second-n.false f.1)
 
 pub invariant_of-result : goal.invariant_of-result
 invariant_of-result c = record {

@@ -1,28 +1,25 @@
 -- Each refusal by the test or the number that caused it; the book by the two rows of the one part that is left, which
 -- are never refused.
-use Rattle.std.proofs.Common.{sym, subst, arith}
+use Rattle.std.proofs.Common.{ap, arith}
 use Rattle.refusal.specs.declared.fault.SheetFault.TheVariants as sheet
 use Rattle.book.specs.Slicing.{NoExpression, bad_count, wrong_length, breaks}
-use Rattle.book.proofs.Exits.{exit_with}
+use Rattle.book.proofs.Exits.{exit_told}
 use Rattle.book.proofs.Trees.{whole_expression, whole_lawful}
 use Rattle.book.proofs.slicing_book.Slicing.new.Goals as goal
 
 pub returns-in_err-countable : goal.returns-in_err-countable
 returns-in_err-countable c =
-    let no_expression = NoExpression c.args.n c.args.expression.now in
     let f = c.in_err-countable.ensures in
-    exit_with _ no_expression c.from_residual.result c.in_err-countable.field-0.0 c.from_residual.ensures.1 (subst no_expression (sym f.told) (bad_count f.out))
+    exit_told _ (NoExpression c.args.n c.args.expression.now) c.from_residual.result _ _ c.from_residual.ensures.1 f.told (bad_count f.out)
 
 pub returns-then-expression-n : goal.returns-then-expression-n
 returns-then-expression-n c = wrong_length c.in_ok-countable.ensures (λ e. c.if-expression-n.true (omega arith))
 
 pub returns-in_err-rows : goal.returns-in_err-rows
 returns-in_err-rows c =
-    let n = c.args.n in
-    let expr = c.args.expression.now in
     let f = c.in_err-rows.ensures in
-    exit_with _ (NoExpression n expr) c.from_residual-in_err-rows.result (sheet.Field c.in_err-rows.field-0.0) c.from_residual-in_err-rows.ensures.1
-    (subst (λ x. NoExpression n expr (sheet.Field x)) (sym f.2) (breaks c.in_ok-countable.ensures (omega arith) f.1))
+    exit_told _ (NoExpression c.args.n c.args.expression.now) c.from_residual-in_err-rows.result _ _ c.from_residual-in_err-rows.ensures.1 (ap sheet.Field f.2)
+    (breaks c.in_ok-countable.ensures (omega arith) f.1)
 
 pub returns-in_err-pair : goal.returns-in_err-pair
 returns-in_err-pair c =

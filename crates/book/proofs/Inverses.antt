@@ -7,7 +7,7 @@ use Rattle.book.specs.declared.relation.Relation.TheVariants.{Left, Right, Above
 use Rattle.book.specs.Rows.{Earlier, Told, left, right, above, below, Row}
 use Rattle.book.specs.Places.{Places, by_places}
 use Rattle.book.specs.Sequence.{Inverse}
-use Rattle.book.proofs.Pigeonhole.{onto}
+use Rattle.book.proofs.Standing.{row_has}
 use Rattle.book.proofs.Tables.{none_breaks}
 
 module _ (n : ℕ) (row places : List ℕ) (long : length row ≡ n) (inv : Inverse n row places) where
@@ -20,9 +20,10 @@ module _ (n : ℕ) (row places : List ℕ) (long : length row ≡ n) (inv : Inve
   -- each cell stands somewhere in the row, and the table says where
   pub standing : (a : ℕ) → a < n → (get_or places a 0 < n) × (get_or row (get_or places a 0) 0 ≡ a)
   standing a h =
-      let at = onto n (λ j. get_or row j 0) inv.cells (λ i j p q e. sym (inv.back i p) ∙ ap (λ c. get_or places c 0) e ∙ inv.back j q) a h in
-      let place : get_or places a 0 ≡ at.0 = ap (λ c. get_or places c 0) (sym at.2) ∙ inv.back at.0 at.1 in
-      (let z = at.1 in omega arith, ap (λ j. get_or row j 0) place ∙ at.2)
+      let at = row_has n row inverse_row a h in
+      let before : at.0 < n = let k = at.1 in omega arith in
+      let place : get_or places a 0 ≡ at.0 = ap (λ c. get_or places c 0) (sym at.2) ∙ inv.back at.0 before in
+      (omega arith, ap (λ j. get_or row j 0) place ∙ at.2)
 
   pub inverse_places : Places n places
   inverse_places = record {

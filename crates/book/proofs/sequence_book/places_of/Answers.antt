@@ -5,9 +5,6 @@ use Rattle.book.proofs.Tables.{table_none, table_more, first_break, table_whole}
 use Rattle.book.proofs.sequence_book.places_of.Goals as goal
 use Rattle.book.proofs.sequence_book.places_of.Goals.{then-cell-n-via-then-cell-n, then-cell-n-via-else-cell-n+then-contains}
 
-pub loop-i-init : goal.loop-i-init
-loop-i-init c = table_none c.args.n c.args.row.now
-
 pub loop-i-preserved : goal.loop-i-preserved
 loop-i-preserved c =
     let fresh = not_from_Decides _ (found_stands _ _ c.contains.result c.contains.ensures.cases) c.if-contains.false in
@@ -20,6 +17,3 @@ returns-then-cell-n c =
       | then-cell-n-via-then-cell-n w ↦ (c.loop-i.i, first (inl w.if-cell-n.true), refl)
       | then-cell-n-via-else-cell-n+then-contains w ↦ (c.loop-i.i, first (inr ((found_stands _ _ w.contains.result w.contains.ensures.cases).0 w.if-contains.true)), refl)
     ]
-
-pub returns : goal.returns
-returns c = table_whole c.args.n c.loop-i.i c.args.row.now c.loop-i.places (omega arith) c.loop-i.invariant

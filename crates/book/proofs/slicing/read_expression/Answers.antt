@@ -8,9 +8,6 @@ use Rattle.book.proofs.slicing.read_expression.Goals as goal
 pub loop-i-init : goal.loop-i-init
 loop-i-init c = ([], reading_none c.args.n c.args.expression.now, c.new-waiting.ensures)
 
-pub read-requires : goal.read-requires
-read-requires c = let h = c.loop-i.invariant in record { few = c.requires.few; held = (h.0, h.2, h.1.once) }
-
 pub returns-in_err-ok_or : goal.returns-in_err-ok_or
 returns-in_err-ok_or c =
     let n = c.args.n in

@@ -1,6 +1,6 @@
 -- What an `Ok` of a call on two cells tells of them.
-use Rattle.std.proofs.Common.{◌≡◌, ℕ, ◌<◌, Bool, true, false, Ok, Err, Decides, Result, sym, refl, ◌∙◌, arith}
-use Rattle.std.proofs.lemmas.Bool.Decides.{nat_tests, not_from_Decides}
+use Rattle.std.proofs.Common.{◌≡◌, ℕ, ◌<◌, Bool, Ok, Err, Decides, Result, sym, ◌∙◌, arith}
+use Rattle.std.proofs.lemmas.Bool.Decides.{nat_tests}
 use denote.Enum.Bare.{Bare, sameb, same_true, true_same}
 use denote.Enum.Declared.{Declared}
 use Rattle.refusal.specs.declared.fault.SheetFault.{SheetFault}
@@ -32,16 +32,6 @@ answered o a b v e = record {
 pub same_decides : (D : Declared) → Bare D.parts → (r : Bool) (x y : D.D) → r ≡ sameb D x y → Decides r (x ≡ y)
 same_decides D bare r x y e = (λ t. same_true D bare x y (sym e ∙ t), λ s. e ∙ true_same D x y s)
 
--- a test of the answer decides what the answer tells
-pub answer_decides : (P : Type 0) (o : Order) (a b : ℕ) (s v : Relation) (r : Bool) → Ok v ≡ asked o a b → (Apart o a b → o.rel a b ≡ s → P) → (P → o.rel a b ≡ s) → Decides r (v ≡ s) → Decides r P
-answer_decides P o a b s v true e make read told =
-    let h = answered o a b v e in (λ _. make h.apart (sym h.value ∙ told.0 refl), λ _. refl)
-answer_decides P o a b s v false e make read told =
-    let h = answered o a b v e in ((λ (q : false ≡ true). absurd (let z : ◌≡◌ {A = ℕ} 0 1 = cc in omega arith)), λ p. absurd (not_from_Decides false told refl (h.value ∙ read p)))
-
 -- a refused question is about no two different cells
 pub refused_not_apart : (o : Order) (a b : ℕ) (f : SheetFault) → Err f ≡ asked o a b → Apart o a b → ⊥
 refused_not_apart o a b f e d = let p = d.a_in in let q = d.b_in in let r = d.differ in grind (arith, nat_tests)
-
-pub refusal_decides : (P : Type 0) (o : Order) (a b : ℕ) (f : SheetFault) → Err f ≡ asked o a b → (P → Apart o a b) → Decides false P
-refusal_decides P o a b f e apart = ((λ (q : false ≡ true). absurd (let z : ◌≡◌ {A = ℕ} 0 1 = cc in omega arith)), λ p. absurd (refused_not_apart o a b f e (apart p)))

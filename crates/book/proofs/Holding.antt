@@ -1,18 +1,16 @@
 -- The rows of waiting parts: what one cell more, a side join and a stack make of them.
-use Rattle.std.proofs.Common.{◌≡◌, ℕ, ◌+◌, ◌-◌, ◌<◌, ◌≤◌, Bool, eqb, List, [], ◌∷◌, ◌++◌, length, get_or, take, drop, set, Decides, sym, refl, ap, ◌∙◌, subst, append_assoc, arith, length-append, length-take}
-use native.Mathlib.Nat.{sub-zero}
+use Rattle.std.proofs.Common.{◌≡◌, ℕ, ◌-◌, ◌≤◌, Bool, eqb, List, [], ◌∷◌, ◌++◌, length, get_or, take, drop, Decides, sym, refl, ap, ◌∙◌, subst, append_assoc, append-nil, arith, length-append, length-drop}
 use borrow.Rule.Slice.PartMut.{mid_of, put_mid}
-use Rattle.std.proofs.lemmas.List.{length_push, get_or_push, get_or-take, get_or_append_left, take-take, take_at, drop_at, take_more_set, get_or_default}
-use Rattle.std.proofs.lemmas.List.Elements.{contains_decides}
-use Rattle.std.proofs.lemmas.Bool.Decides.{Decides-like, Decides-eqb}
+use Rattle.std.proofs.lemmas.List.{length_push, get_or_push, get_or_append_left, take_at, take_all, drop_at, drop_all}
 use Rattle.std.specs.List.{IsAnyAnswer}
-use Rattle.std.proofs.lemmas.Slice.{between_is, take-put_mid}
+use Rattle.arrayvec.specs.ArrayVec.{ArrayVec, with_items}
+use Rattle.arrayvec.proofs.ArrayVecLemmas.{items-with_items}
 use Rattle.book.specs.declared.slicing.Waiting.{Waiting}
 use Rattle.book.specs.Order.{most_cells}
 use Rattle.book.specs.Rows.{Breaks}
 use Rattle.book.specs.Slicing.{Part, cell, beside, stacked, leaves, Read}
-use Rattle.book.specs.Waiting.{upper, in_row, begins, Holds, Stackable, Once}
-use Rattle.book.proofs.Standing.{Stands, once_at_most}
+use Rattle.book.specs.Waiting.{upper, in_row, begins, Holds, Roomy, Stackable, Once}
+use Rattle.book.proofs.Standing.{Stands, found_stands, once_at_most}
 use Rattle.book.proofs.Trees.{upper_length}
 
 some_leaf : (p : Part) → 1 ≤ length (leaves p)
@@ -38,167 +36,152 @@ begins_length : (ps : List Part) → length (begins ps) ≡ length ps
 begins_length [] = refl
 begins_length (p ∷ ps) = let h = begins_length ps in let l = length_push (begins ps) (length (in_row leaves ps)) in omega arith
 
-pub cells_fit : (ps : List Part) (w : Waiting) → Holds ps w → length w.first ≡ most_cells → w.cells ≤ most_cells
-cells_fit ps w h long =
-    let taken : length (take w.cells w.first) ≡ length (in_row upper ps) = ap length h.first in
-    let l = length-take w.cells w.first in
-    let same = rows_length ps in
-    omega (arith, h.cells)
+-- each waiting part has a beginning
+pub parts_begin : (ps : List Part) (w : Waiting) → Holds ps w → length w.starts.items ≡ length ps
+parts_begin ps w h = ap length h.starts ∙ begins_length ps
 
-module _ (ps : List Part) (w : Waiting) (k : ℕ) (h : Holds ps w) (room : w.cells < most_cells)
-    (starts_long : length w.starts ≡ most_cells) (first_long : length w.first ≡ most_cells) (second_long : length w.second ≡ most_cells)
-  where
-    pub push_holds : Holds (cell k ∷ ps) (record { parts = w.parts + 1; cells = w.cells + 1; starts = set w.starts w.parts w.cells; first = set w.first w.cells k; second = set w.second w.cells k })
-    push_holds =
-        let parts = h.parts in
-        let cells = h.cells in
-        let starts = h.starts in
-        let first = h.first in
-        let second = h.second in
-        let at_most = parts_at_most_cells ps in
-        let pushed = length_push (in_row leaves ps) k in
-        let below : w.parts < length w.starts = omega arith in
-        let first_below : w.cells < length w.first = omega arith in
-        let second_below : w.cells < length w.second = omega arith in
-        let new_starts = take_more_set w.starts w.parts w.cells below in
-        let new-first = take_more_set w.first w.cells k first_below in
-        let new_second = take_more_set w.second w.cells k second_below in
-        record {
-          parts = omega arith;
-          cells = omega arith;
-          starts = cc;
-          first = cc;
-          second = cc;
-        }
+-- a write from place a to the end
+put_end : (a : ℕ) (xs ys : List ℕ) → a ≤ length xs → put_mid a (length xs - a) xs ys ≡ take a xs ++ ys
+put_end a xs ys fit =
+    let l = length-drop a xs in
+    ap (λ r. take a xs ++ (ys ++ r)) (drop_all (length xs - a) (drop a xs) (omega arith)) ∙ ap (λ r. take a xs ++ r) (append-nil ys)
 
 module _ (p q : Part) (ps : List Part) (w : Waiting) (h : Holds (q ∷ p ∷ ps) w) where
+  abbrev starts : List ℕ
+  starts = w.starts.items
+
   abbrev front : List ℕ
   front = begins ps ++ (length (in_row leaves ps) ∷ [])
 
-  front_length : length front ≡ w.parts - 1
-  front_length = let l = begins_length (p ∷ ps) in omega (arith, h.parts)
+  -- where the later of the two begins
+  abbrev last : ℕ
+  last = length (in_row leaves (p ∷ ps))
 
-  one_start_less : take (w.parts - 1) w.starts ≡ front
-  one_start_less =
-      sym (take-take (w.parts - 1) w.parts w.starts (omega arith))
-      ∙ ap (take (w.parts - 1)) h.starts
-      ∙ take_at front (length (in_row leaves (p ∷ ps)) ∷ []) (w.parts - 1) front_length
+  front_length : length front ≡ length starts - 1
+  front_length = let l = length_push front last in let n = ap length h.starts in omega arith
 
-  pub join_holds : Holds (beside p q ∷ ps) (record { parts = w.parts - 1; cells = w.cells; starts = w.starts; first = w.first; second = w.second })
-  join_holds = record {
-    parts = omega (arith, h.parts);
-    cells = h.cells ∙ ap length (append_assoc (in_row leaves ps) (leaves p) (leaves q));
-    starts = one_start_less;
+  one_start_less : take (length starts - 1) starts ≡ front
+  one_start_less = ap (take (length starts - 1)) h.starts ∙ take_at front (last ∷ []) (length starts - 1) front_length
+
+  pub join_holds : (popped : ArrayVec ℕ) → popped.items ≡ take (length starts - 1) starts → Holds (beside p q ∷ ps) (record { starts = popped; first = w.first; second = w.second })
+  join_holds popped rest = record {
+    starts = rest ∙ one_start_less;
     first = h.first ∙ append_assoc (in_row upper ps) (upper p) (upper q);
     second = h.second ∙ append_assoc (in_row leaves ps) (leaves p) (leaves q);
   }
 
-  abbrev earlier : ℕ
-  earlier = get_or w.starts (w.parts - 2) 0
+  later_starts : get_or starts (length starts - 1) 0 ≡ last
+  later_starts = ap (λ xs. get_or xs (length starts - 1) 0) h.starts ∙ get_or_push front last 0 (length starts - 1) front_length
 
-  abbrev later : ℕ
-  later = get_or w.starts (w.parts - 1) 0
-
-  later_starts : later ≡ length (in_row leaves (p ∷ ps))
-  later_starts =
-      let n = h.parts in
-      sym (get_or-take w.parts w.starts (w.parts - 1) 0 (omega arith))
-      ∙ ap (λ xs. get_or xs (w.parts - 1) 0) h.starts
-      ∙ get_or_push front (length (in_row leaves (p ∷ ps))) 0 (w.parts - 1) front_length
-
-  earlier_starts : earlier ≡ length (in_row leaves ps)
+  earlier_starts : get_or starts (length starts - 2) 0 ≡ length (in_row leaves ps)
   earlier_starts =
-      let n = h.parts in
+      let n = ap length h.starts in
       let l = begins_length ps in
       let f = front_length in
-      sym (get_or-take w.parts w.starts (w.parts - 2) 0 (omega arith))
-      ∙ ap (λ xs. get_or xs (w.parts - 2) 0) h.starts
-      ∙ get_or_append_left front (length (in_row leaves (p ∷ ps)) ∷ []) 0 (w.parts - 2) (omega arith)
-      ∙ get_or_push (begins ps) (length (in_row leaves ps)) 0 (w.parts - 2) (omega arith)
+      let m = length_push (begins ps) (length (in_row leaves ps)) in
+      ap (λ xs. get_or xs (length starts - 2) 0) h.starts
+      ∙ get_or_append_left front (last ∷ []) 0 (length starts - 2) (omega arith)
+      ∙ get_or_push (begins ps) (length (in_row leaves ps)) 0 (length starts - 2) (omega arith)
 
-  pub stack_bounds : length w.first ≡ most_cells → Stackable w
-  stack_bounds long =
+  pub stack_bounds : Stackable w
+  stack_bounds =
       let a = earlier_starts in
       let b = later_starts in
-      let cells = h.cells in
-      let parts = h.parts in
+      let f = front_length in
+      let same = rows_length (q ∷ p ∷ ps) in
+      let row = ap length h.first in
+      let k = length_push (begins ps) (length (in_row leaves ps)) in
       let l = length-append (in_row leaves ps) (leaves p) in
       let m = length-append (in_row leaves (p ∷ ps)) (leaves q) in
-      let at_most = parts_at_most_cells (q ∷ p ∷ ps) in
-      record { two = omega arith; few = omega (arith, cells_fit (q ∷ p ∷ ps) w h long); ascend = omega arith; inside = omega arith; fit = cells_fit (q ∷ p ∷ ps) w h long }
+      record { two = omega arith; ascend = omega arith; inside = omega arith }
 
-  -- the two parts in the first row
-  first_rows : mid_of earlier (w.cells - earlier) w.first ≡ upper p ++ upper q
-  first_rows =
-      let same = rows_length ps in
-      let a = earlier_starts in
-      between_is w.first earlier w.cells
-      ∙ ap (drop earlier) (h.first ∙ append_assoc (in_row upper ps) (upper p) (upper q))
-      ∙ drop_at (in_row upper ps) (upper p ++ upper q) earlier (omega arith)
+  module _ (earlier later : ℕ) (slice moved : List ℕ) (is_earlier : earlier ≡ get_or starts (length starts - 2) 0) (is_later : later ≡ get_or starts (length starts - 1) 0)
+      (is_slice : slice ≡ w.first.items)
+      (turned : moved ≡ drop (later - earlier) (mid_of earlier (length slice - earlier) slice) ++ take (later - earlier) (mid_of earlier (length slice - earlier) slice))
+    where
+      low : earlier ≡ length (in_row upper ps)
+      low = let same = rows_length ps in let a = earlier_starts in omega arith
 
-  pub stack_holds : (moved : List ℕ) → length w.first ≡ most_cells
-      → moved ≡ drop (later - earlier) (mid_of earlier (w.cells - earlier) w.first) ++ take (later - earlier) (mid_of earlier (w.cells - earlier) w.first)
-      → Holds (stacked p q ∷ ps) (record { parts = w.parts - 1; cells = w.cells; starts = w.starts; first = put_mid earlier (w.cells - earlier) w.first moved; second = w.second })
-  stack_holds moved long turned =
-      let a = earlier_starts in
-      let b = later_starts in
-      let n = h.cells in
-      let same = rows_length ps in
-      let same_p = upper_length p in
-      let same_q = upper_length q in
-      let l = length-append (in_row leaves ps) (leaves p) in
-      let m = length-append (in_row leaves (p ∷ ps)) (leaves q) in
-      let swapped = length-append (upper q) (upper p) in
-      let mid : length (upper p) ≡ later - earlier = omega arith in
-      let fit = cells_fit (q ∷ p ∷ ps) w h long in
-      let moved_is : moved ≡ upper q ++ upper p =
-      turned ∙ ap (λ xs. drop (later - earlier) xs ++ take (later - earlier) xs) first_rows
-      ∙ (let d = drop_at (upper p) (upper q) (later - earlier) mid in let t = take_at (upper p) (upper q) (later - earlier) mid in cc)
-      in
-      let moved_length : length moved ≡ length (upper q ++ upper p) = ap length moved_is in
-      let before : take earlier w.first ≡ in_row upper ps =
-      sym (take-take earlier w.cells w.first (omega arith))
-      ∙ ap (take earlier) (h.first ∙ append_assoc (in_row upper ps) (upper p) (upper q))
-      ∙ take_at (in_row upper ps) (upper p ++ upper q) earlier (omega arith)
-      in
-      let whole = take-put_mid earlier (w.cells - earlier) w.first moved w.cells (omega arith) (omega arith) in
-      record {
-        parts = omega (arith, h.parts);
-        cells = h.cells ∙ ap length (append_assoc (in_row leaves ps) (leaves p) (leaves q));
-        starts = one_start_less;
-        first = cc;
-        second = h.second ∙ append_assoc (in_row leaves ps) (leaves p) (leaves q);
-      }
+      split : slice ≡ in_row upper ps ++ (upper p ++ upper q)
+      split = is_slice ∙ h.first ∙ append_assoc (in_row upper ps) (upper p) (upper q)
+
+      -- the two parts in the first row
+      both : mid_of earlier (length slice - earlier) slice ≡ upper p ++ upper q
+      both =
+          let n = ap length split in
+          let l = length-append (in_row upper ps) (upper p ++ upper q) in
+          let e = low in
+          ap (λ xs. take (length slice - earlier) (drop earlier xs)) split
+          ∙ ap (take (length slice - earlier)) (drop_at (in_row upper ps) (upper p ++ upper q) earlier (sym low))
+          ∙ take_all (length slice - earlier) (upper p ++ upper q) (omega arith)
+
+      moved_is : moved ≡ upper q ++ upper p
+      moved_is =
+          let b = later_starts in
+          let l = length-append (in_row leaves ps) (leaves p) in
+          let same = rows_length ps in
+          let same_p = upper_length p in
+          let e = low in
+          let mid : length (upper p) ≡ later - earlier = omega arith in
+          let d = drop_at (upper p) (upper q) (later - earlier) mid in
+          let t = take_at (upper p) (upper q) (later - earlier) mid in
+          turned ∙ ap (λ xs. drop (later - earlier) xs ++ take (later - earlier) xs) both ∙ cc
+
+      written : put_mid earlier (length slice - earlier) slice moved ≡ in_row upper (stacked p q ∷ ps)
+      written =
+          let n = ap length split in
+          let l = length-append (in_row upper ps) (upper p ++ upper q) in
+          let e = low in
+          put_end earlier slice moved (omega arith)
+          ∙ ap (λ xs. take earlier xs ++ moved) split
+          ∙ ap (λ xs. xs ++ moved) (take_at (in_row upper ps) (upper p ++ upper q) earlier (sym low))
+          ∙ ap (λ xs. in_row upper ps ++ xs) moved_is
+
+      pub stack_holds : (popped : ArrayVec ℕ) → popped.items ≡ take (length starts - 1) starts
+          → Holds (stacked p q ∷ ps) (record { starts = popped; first = with_items w.first (put_mid earlier (length slice - earlier) slice moved); second = w.second })
+      stack_holds popped rest =
+          let n = ap length written in
+          let m = ap length h.first in
+          let k = rows_length (stacked p q ∷ ps) in
+          let same = rows_length (q ∷ p ∷ ps) in
+          let regroup = ap length (append_assoc (in_row leaves ps) (leaves p) (leaves q)) in
+          record {
+            starts = rest ∙ one_start_less;
+            first = items-with_items w.first (put_mid earlier (length slice - earlier) slice moved) (omega arith) ∙ written;
+            second = h.second ∙ append_assoc (in_row leaves ps) (leaves p) (leaves q);
+          }
 
 -- two parts or more can be stacked
-pub two_stackable : (ps : List Part) (w : Waiting) → Holds ps w → 2 ≤ w.parts → length w.first ≡ most_cells → Stackable w
-two_stackable [] w h two long = absurd (omega (arith, h.parts))
-two_stackable (p ∷ []) w h two long = absurd (omega (arith, h.parts))
-two_stackable (q ∷ p ∷ ps) w h two long = stack_bounds p q ps w h long
+pub two_stackable : (ps : List Part) (w : Waiting) → Holds ps w → 2 ≤ length w.starts.items → Stackable w
+two_stackable [] w h two = absurd (let n = parts_begin [] w h in omega arith)
+two_stackable (p ∷ []) w h two = absurd (let n = parts_begin (p ∷ []) w h in omega arith)
+two_stackable (q ∷ p ∷ ps) w h two = stack_bounds p q ps w h
 
 -- where one more cell keeps each in one place only, there is room for it
-pub room_for_one : (n k : ℕ) (ps : List Part) (w : Waiting) → n ≤ most_cells → Holds ps w → Once n (cell k ∷ ps) → (w.parts < most_cells) × (w.cells < most_cells)
+pub room_for_one : (n k : ℕ) (ps : List Part) (w : Waiting) → n ≤ most_cells → Holds ps w → Once n (cell k ∷ ps) → Roomy w
 room_for_one n k ps w few h once =
     let at_most = once_at_most n (in_row leaves (cell k ∷ ps)) once in
     let pushed = length_push (in_row leaves ps) k in
     let parts = parts_at_most_cells ps in
-    (omega (arith, h.parts, h.cells), omega (arith, h.cells))
+    let begun = begins_length ps in
+    let same = rows_length ps in
+    let starts = ap length h.starts in
+    let first = ap length h.first in
+    let second = ap length h.second in
+    record { starts = omega arith; first = omega arith; second = omega arith }
 
 -- what a search of the second row finds
-pub found_stands : (k : ℕ) (ps : List Part) (w : Waiting) (found : Bool) → Holds ps w → IsAnyAnswer (λ y t. eqb y k ≡ t) (mid_of 0 (w.cells - 0) w.second) found → Decides found (Stands (in_row leaves ps) k)
-found_stands k ps w found h some =
-    let row : mid_of 0 (w.cells - 0) w.second ≡ in_row leaves ps = ap (λ m. take m w.second) (sub-zero w.cells) ∙ h.second in
-    Decides-like found (λ r. (r.0, r.1, r.2 0)) (λ s. (s.0, s.1, λ d. get_or_default (in_row leaves ps) s.0 d 0 s.1 ∙ s.2))
-    (contains_decides eqb Decides-eqb (in_row leaves ps) k found (subst (λ xs. IsAnyAnswer (λ y t. eqb y k ≡ t) xs found) row some))
+pub found_waits : (k : ℕ) (ps : List Part) (w : Waiting) (row : List ℕ) (found : Bool) → Holds ps w → row ≡ w.second.items → IsAnyAnswer (λ y t. eqb y k ≡ t) row found → Decides found (Stands (in_row leaves ps) k)
+found_waits k ps w row found h is some = subst (λ xs. Decides found (Stands xs k)) (is ∙ h.second) (found_stands k row found some)
 
 -- a join reads the last two parts as one
 module _ (n k : ℕ) (join : Part → Part → Part) (lays : (p q : Part) → leaves (join p q) ≡ leaves p ++ leaves q)
-    (reads : (p q : Part) (ps : List Part) → Read n k (q ∷ p ∷ ps) (join p q ∷ ps)) (was now : Waiting) (two : 2 ≤ was.parts)
+    (reads : (p q : Part) (ps : List Part) → Read n k (q ∷ p ∷ ps) (join p q ∷ ps)) (was now : Waiting) (two : 2 ≤ length was.starts.items)
     (held : (p q : Part) (ps : List Part) → Holds (q ∷ p ∷ ps) was → Holds (join p q ∷ ps) now)
   where
     pub join_reads : (ps : List Part) → Holds ps was → Once n ps → (qs : List Part) × Read n k ps qs × Holds qs now × Once n qs
-    join_reads [] h once = absurd (omega (arith, h.parts))
-    join_reads (p ∷ []) h once = absurd (omega (arith, h.parts))
+    join_reads [] h once = absurd (let n = parts_begin [] was h in omega arith)
+    join_reads (p ∷ []) h once = absurd (let n = parts_begin (p ∷ []) was h in omega arith)
     join_reads (q ∷ p ∷ ps) h once =
         let same : in_row leaves (q ∷ p ∷ ps) ≡ in_row leaves (join p q ∷ ps) = append_assoc (in_row leaves ps) (leaves p) (leaves q) ∙ ap (λ r. in_row leaves ps ++ r) (sym (lays p q)) in
         (join p q ∷ ps, reads p q ps, held p q ps h, subst (λ r. (i : ℕ) → Breaks n r i → ⊥) same once)

@@ -5,9 +5,9 @@ use Rattle.std.proofs.lemmas.Bool.{cases_lt}
 use Rattle.book.specs.declared.relation.Relation.{Relation}
 use Rattle.book.specs.declared.relation.Relation.TheVariants.{Left, Right, Above, Below}
 use Rattle.book.specs.Rows.{Earlier, Told, left, right, above, below, Row}
-use Rattle.book.specs.Places.{Within, Once, by_places}
+use Rattle.book.specs.Places.{Places, by_places}
 use Rattle.book.specs.Sequence.{Inverse}
-use Rattle.book.proofs.Pigeonhole.{onto}
+use Rattle.book.proofs.Standing.{row_has}
 use Rattle.book.proofs.Tables.{none_breaks}
 
 module _ (n : ℕ) (row places : List ℕ) (long : length row ≡ n) (inv : Inverse n row places) where
@@ -20,15 +20,17 @@ module _ (n : ℕ) (row places : List ℕ) (long : length row ≡ n) (inv : Inve
   -- each cell stands somewhere in the row, and the table says where
   pub standing : (a : ℕ) → a < n → (get_or places a 0 < n) × (get_or row (get_or places a 0) 0 ≡ a)
   standing a h =
-      let at = onto n (λ j. get_or row j 0) inv.cells (λ i j p q e. sym (inv.back i p) ∙ ap (λ c. get_or places c 0) e ∙ inv.back j q) a h in
-      let place : get_or places a 0 ≡ at.0 = ap (λ c. get_or places c 0) (sym at.2) ∙ inv.back at.0 at.1 in
-      (let z = at.1 in omega arith, ap (λ j. get_or row j 0) place ∙ at.2)
+      let at = row_has n row inverse_row a h in
+      let before : at.0 < n = let k = at.1 in omega arith in
+      let place : get_or places a 0 ≡ at.0 = ap (λ c. get_or places c 0) (sym at.2) ∙ inv.back at.0 before in
+      (omega arith, ap (λ j. get_or row j 0) place ∙ at.2)
 
-  pub inverse_within : Within n places
-  inverse_within a h = (standing a h).0
-
-  pub inverse_once : Once n places
-  inverse_once a b h = sym (standing a h.0).1 ∙ ap (λ j. get_or row j 0) h.2 ∙ (standing b h.1).1
+  pub inverse_places : Places n places
+  inverse_places = record {
+    long = inv.long;
+    within = λ a h. (standing a h).0;
+    once = λ a b h. sym (standing a h.0).1 ∙ ap (λ j. get_or row j 0) h.2 ∙ (standing b h.1).1;
+  }
 
   pub earlier : (a b : ℕ) → a < n → b < n → get_or places a 0 < get_or places b 0 → Earlier row a b
   earlier a b p q less = record {
@@ -50,8 +52,8 @@ told_by_places n first second p q long_first long_second inv_p inv_q a b a_in b_
     let P : Relation → Type 0 = Told first second a b in
     let one = earlier n first p long_first inv_p in
     let two = earlier n second q long_second inv_q in
-    let apart_p : get_or p a 0 ≡ get_or p b 0 → ⊥ = λ e. differ (inverse_once n first p long_first inv_p a b (a_in, b_in, e)) in
-    let apart_q : get_or q a 0 ≡ get_or q b 0 → ⊥ = λ e. differ (inverse_once n second q long_second inv_q a b (a_in, b_in, e)) in
+    let apart_p : get_or p a 0 ≡ get_or p b 0 → ⊥ = λ e. differ ((inverse_places n first p long_first inv_p).once a b (a_in, b_in, e)) in
+    let apart_q : get_or q a 0 ≡ get_or q b 0 → ⊥ = λ e. differ ((inverse_places n second q long_second inv_q).once a b (a_in, b_in, e)) in
     ⊎_elim
     (λ (pl : get_or p a 0 < get_or p b 0).
     ⊎_elim

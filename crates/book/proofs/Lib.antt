@@ -1,7 +1,6 @@
 pub mod Exits
 pub mod Cells
 pub mod Trade
-pub mod Pigeonhole
 pub mod Tables
 pub mod Inverses
 pub mod Standing

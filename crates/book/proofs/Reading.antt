@@ -156,13 +156,12 @@ reading_whole n expr i w ps long end fit reading holds =
     go : (ps : List Part) → length ps ≡ 1 → length (in_row leaves ps) ≡ n → Reading n expr i ps → Holds ps w → Whole n expr w
     go [] one all r h = absurd (omega arith)
     go (p ∷ []) one all r h =
-        let cells : w.cells ≡ n = h.cells ∙ all in
         record {
           part = p;
           read = subst (λ ks. Reads n ks [] (p ∷ [])) (take_all i expr end) r.read;
           row = record { long = all; whole = r.once };
-          first = ap (λ k. take k w.first) (sym cells) ∙ h.first;
-          second = ap (λ k. take k w.second) (sym cells) ∙ h.second;
+          first = h.first;
+          second = h.second;
         }
     go (p ∷ q ∷ ps) one all r h = absurd (omega arith)
 

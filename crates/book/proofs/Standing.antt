@@ -1,9 +1,13 @@
 -- Rows as lists: where a number stands, that none stands twice, and what two rows keep when one is put after the other.
-use Rattle.std.proofs.Common.{◌≡◌, ℕ, zero, suc, ◌+◌, ◌-◌, ◌<◌, ◌≤◌, ◌⊎◌, List, [], ◌∷◌, ◌++◌, length, get_or, sym, refl, ◌∙◌, inl, inr, ⊎_elim, add_comm, arith, length-append}
-use Rattle.std.proofs.lemmas.List.{get_or_append_left, get_or-append-add, get_or-append_right}
+use Rattle.std.proofs.Common.{◌≡◌, ℕ, zero, suc, ◌+◌, ◌-◌, ◌<◌, ◌≤◌, ◌⊎◌, Bool, true, false, eqb, List, [], ◌∷◌, ◌++◌, length, get_or, take, Decides, sym, refl, ◌∙◌, inl, inr, ⊎_elim, add_comm, arith, length-append, length-take}
+use Rattle.std.proofs.lemmas.List.{length_push, get_or_append_left, get_or-append-add, get_or-append_right, get_or-take, get_or_default}
+use Rattle.std.proofs.lemmas.List.Elements.{contains_decides}
+use Rattle.std.proofs.lemmas.Bool.Decides.{Decides-like, Decides-eqb, Decides-by_or, eqb_tells, not_from_Decides}
+use Rattle.std.proofs.lemmas.Map.Keys.{IsDistinct-from_apart}
+use Rattle.std.proofs.lemmas.Map.Steps.{length-le_from_distinct_below}
+use Rattle.std.specs.List.{IsAnyAnswer, list_any}
 use Rattle.std.proofs.lemmas.Bool.{cases_lt, cases_order}
 use Rattle.book.specs.Rows.{Earlier, Breaks, Row}
-use Rattle.book.proofs.Pigeonhole.{pigeonhole, onto}
 
 abbrev pub Stands : List ℕ → ℕ → Type 0
 Stands row a = (i : ℕ) × (i < length row) × (get_or row i 0 ≡ a)
@@ -11,6 +15,29 @@ Stands row a = (i : ℕ) × (i < length row) × (get_or row i 0 ≡ a)
 -- no number stands twice
 abbrev pub Single : List ℕ → Type 0
 Single row = (i j : ℕ) → i < length row → j < length row → get_or row i 0 ≡ get_or row j 0 → i ≡ j
+
+-- a number at a place before i stands among the first i, and the other way round
+pub stands_before : (row : List ℕ) (i j : ℕ) {a : ℕ} → j < i → i < length row → get_or row j 0 ≡ a → Stands (take i row) a
+stands_before row i j h at e = let l = length-take i row in (j, omega arith, get_or-take i row j 0 h ∙ e)
+
+pub before_stands : (row : List ℕ) (i : ℕ) {a : ℕ} → i < length row → Stands (take i row) a → (j : ℕ) × (j < i) × (get_or row j 0 ≡ a)
+before_stands row i at s =
+    let l = length-take i row in
+    let k = s.1 in
+    let low : s.0 < i = omega arith in
+    (s.0, low, sym (get_or-take i row s.0 0 low) ∙ s.2)
+
+-- what a search of a row finds
+pub found_stands : (k : ℕ) (row : List ℕ) (found : Bool) → IsAnyAnswer (λ y t. eqb y k ≡ t) row found → Decides found (Stands row k)
+found_stands k row found some =
+    Decides-like found (λ r. (r.0, r.1, r.2 0)) (λ s. (s.0, s.1, λ d. get_or_default row s.0 d 0 s.1 ∙ s.2))
+    (contains_decides eqb Decides-eqb row k found some)
+
+-- whether a number stands in a row
+any_stands : (row : List ℕ) (a : ℕ) → Decides (list_any (eqb a) row) (Stands row a)
+any_stands row a =
+    Decides-like _ (λ r. (r.0, r.1, sym (r.2 0))) (λ s. (s.0, s.1, λ d. sym (get_or_default row s.0 d 0 s.1 ∙ s.2)))
+    (Decides-by_or (eqb a) (λ x. a ≡ x) (list_any (eqb a)) (Decides-eqb a) refl (λ _ _. refl) row)
 
 -- One row after another
 
@@ -158,7 +185,15 @@ module _ (n : ℕ) (row : List ℕ) (once : (i : ℕ) → Breaks n row i → ⊥
       (cases_order i j)
 
   pub once_at_most : length row ≤ n
-  once_at_most = pigeonhole n (length row) (λ i. get_or row i 0) once_low once_single
+  once_at_most =
+      length-le_from_distinct_below row n
+      (IsDistinct-from_apart eqb row
+      (λ i j d h k.
+      ⊎_elim
+      (λ t. absurd (let z = once_single i j (omega arith) k (get_or_default row i 0 d (omega arith) ∙ t.1 ∙ get_or_default row j d 0 k) in omega arith))
+      (λ t. t.0)
+      (eqb_tells (get_or row i d) (get_or row j d))))
+      (λ a e. let s = (any_stands row a).0 e in let low = once_low s.0 s.1 in let is = s.2 in omega arith)
 
 pub single_once : (n : ℕ) (row : List ℕ) → ((a : ℕ) → Stands row a → a < n) → Single row → (i : ℕ) → Breaks n row i → ⊥
 single_once n row low single i b =
@@ -192,7 +227,12 @@ module _ (n : ℕ) (row : List ℕ) (whole : Row n row) where
   row_low a s = let h = once_low n row whole.whole s.0 s.1 in let e = s.2 in omega arith
 
   pub row_has : (a : ℕ) → a < n → Stands row a
-  row_has a h =
-      let long = whole.long in
-      let at = onto n (λ i. get_or row i 0) (λ i k. once_low n row whole.whole i (omega arith)) (λ i j p q e. row_single i j (omega arith) (omega arith) e) a h in
-      (at.0, let k = at.1 in omega arith, at.2)
+  row_has a h = by_test (list_any (eqb a) row) (any_stands row a)
+    where
+      by_test : (b : Bool) → Decides b (Stands row a) → Stands row a
+      by_test true d = d.0 refl
+      by_test false d =
+          let most = once_at_most n (row ++ a ∷ []) (once_push n row a whole.whole h (not_from_Decides false d refl)) in
+          let pushed = length_push row a in
+          let long = whole.long in
+          absurd (omega arith)

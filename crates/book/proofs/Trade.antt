@@ -1,8 +1,8 @@
 -- Exchanging two names: there and back, within the cells, and what it does to a table of places.
-use Rattle.std.proofs.Common.{◌≡◌, ℕ, ◌<◌, List, get_or, sym, ap, ◌∙◌, ⊎_elim, arith}
+use Rattle.std.proofs.Common.{◌≡◌, ℕ, ◌<◌, List, length, get_or, sym, ap, ◌∙◌, ⊎_elim, arith}
 use Rattle.std.proofs.lemmas.Bool.Decides.{nat_tests, eqb_tells}
 use Rattle.book.specs.Order.{trade, Order, Apart, SameOrder, swapped}
-use Rattle.book.specs.Places.{Within, Once}
+use Rattle.book.specs.Places.{Places}
 
 pub trade_in : (n a b x : ℕ) → a < n → b < n → x < n → trade a b x < n
 trade_in n a b x p q r = grind (arith, nat_tests)
@@ -44,20 +44,13 @@ module _ (xs ys : List ℕ) (a b : ℕ) (at_a : (d : ℕ) → get_or ys a d ≡ 
     (elsewhere : (k d : ℕ) → (k ≡ a → ⊥) → (k ≡ b → ⊥) → get_or ys k d ≡ get_or xs k d)
   where
     pub traded : (x : ℕ) → get_or ys x 0 ≡ get_or xs (trade a b x) 0
-    traded x =
-        ⊎_elim
-        (λ p. let e : trade a b x ≡ b = simp p.0 in ap (λ k. get_or ys k 0) p.1 ∙ at_a 0 ∙ ap (λ k. get_or xs k 0) (sym e))
-        (λ p.
-        ⊎_elim
-        (λ q. let e : trade a b x ≡ a = simp (p.0, q.0) in ap (λ k. get_or ys k 0) q.1 ∙ at_b 0 ∙ ap (λ k. get_or xs k 0) (sym e))
-        (λ q. let e : trade a b x ≡ x = simp (p.0, q.0) in elsewhere x 0 p.1 q.1 ∙ ap (λ k. get_or xs k 0) (sym e))
-        (eqb_tells x b))
-        (eqb_tells x a)
+    traded x = grind (arith, nat_tests, at_a, at_b, elsewhere)
 
-    pub traded_within : (n : ℕ) → a < n → b < n → Within n xs → Within n ys
-    traded_within n p q w x h = let e = traded x in let k = w (trade a b x) (trade_in n a b x p q h) in omega arith
-
-    pub traded_once : (n : ℕ) → a < n → b < n → Once n xs → Once n ys
-    traded_once n p q o x y h =
-        trade_injective a b x y
-        (o (trade a b x) (trade a b y) (trade_in n a b x p q h.0, trade_in n a b y p q h.1, sym (traded x) ∙ h.2 ∙ traded y))
+    pub traded_places : (n : ℕ) → a < n → b < n → length ys ≡ length xs → Places n xs → Places n ys
+    traded_places n p q same was = record {
+      long = same ∙ was.long;
+      within = λ x h. let e = traded x in let k = was.within (trade a b x) (trade_in n a b x p q h) in omega arith;
+      once = λ x y h.
+          trade_injective a b x y
+          (was.once (trade a b x) (trade a b y) (trade_in n a b x p q h.0, trade_in n a b y p q h.1, sym (traded x) ∙ h.2 ∙ traded y));
+    }

@@ -1,7 +1,5 @@
 -- A part and its two rows: what the part tells of two cells, the rows tell, and nothing else.
-use Rattle.std.proofs.Common.{◌≡◌, ℕ, ◌-◌, ◌<◌, List, [], ◌∷◌, ◌++◌, length, take, sym, refl, ap, ◌∙◌, subst, inl, inr, ⊎_elim, arith}
-use native.Mathlib.Nat.{sub-zero}
-use borrow.Rule.Slice.PartMut.{mid_of}
+use Rattle.std.proofs.Common.{◌≡◌, ℕ, ◌<◌, List, [], ◌∷◌, ◌++◌, length, sym, refl, ◌∙◌, subst, inl, inr, ⊎_elim, arith}
 use Rattle.refusal.specs.declared.fault.SheetFault.{SheetFault}
 use Rattle.book.specs.declared.relation.Relation.{Relation}
 use Rattle.book.specs.declared.slicing.Waiting.{Waiting}
@@ -162,23 +160,17 @@ tells_holds n expr o e {a} {b} t =
     (apart, told_one one two (tells_told (e.each a b apart)) (tells_told t))
 
 -- the rows of the one part that is left, as they are lent to the sequence-pair
-module _ (n : ℕ) (expr : List ℕ) (w : Waiting) (whole : Whole n expr w) where
-  abbrev first : List ℕ
-  first = mid_of 0 (n - 0) w.first
-
-  abbrev second : List ℕ
-  second = mid_of 0 (n - 0) w.second
-
+module _ (n : ℕ) (expr : List ℕ) (w : Waiting) (whole : Whole n expr w) (first second : List ℕ) (lent_first : first ≡ w.first.items) (lent_second : second ≡ w.second.items) where
   first_is : first ≡ upper whole.part
-  first_is = ap (λ k. take k w.first) (sub-zero n) ∙ whole.first
+  first_is = lent_first ∙ whole.first
 
   second_is : second ≡ leaves whole.part
-  second_is = ap (λ k. take k w.second) (sub-zero n) ∙ whole.second
+  second_is = lent_second ∙ whole.second
 
-  pub whole_first : Row n first
+  whole_first : Row n first
   whole_first = subst (Row n) (sym first_is) (upper_row n whole.part whole.row)
 
-  pub whole_second : Row n second
+  whole_second : Row n second
   whole_second = subst (Row n) (sym second_is) whole.row
 
   pub whole_expression : (o : Order) → Rows n first second o → Expression n expr o
@@ -190,10 +182,10 @@ module _ (n : ℕ) (expr : List ℕ) (w : Waiting) (whole : Whole n expr w) wher
     each = told_tells n whole.part o whole.row (subst (λ x. Rows n x (leaves whole.part) o) first_is (subst (λ y. Rows n first y o) second_is r));
   }
 
--- lawful rows are never refused
-pub rows_lawful : {n : ℕ} {first second : List ℕ} {f : SheetFault} → Countable n → Row n first → Row n second → NoRows n first second f → ⊥
-rows_lawful c one two (rows.bad_count out) = out c
-rows_lawful c one two (rows.first_length _ long) = long one.long
-rows_lawful c one two (rows.second_length _ _ long) = long two.long
-rows_lawful c one two (rows.first_breaks {i} _ _ _ b) = one.whole i b.here
-rows_lawful c one two (rows.second_breaks {i} _ _ _ b) = two.whole i b.here
+  -- which are never refused
+  pub whole_lawful : {f : SheetFault} → Countable n → NoRows n first second f → ⊥
+  whole_lawful c (rows.bad_count out) = out c
+  whole_lawful c (rows.first_length _ long) = long whole_first.long
+  whole_lawful c (rows.second_length _ _ long) = long whole_second.long
+  whole_lawful c (rows.first_breaks {i} _ _ _ b) = whole_first.whole i b.here
+  whole_lawful c (rows.second_breaks {i} _ _ _ b) = whole_second.whole i b.here

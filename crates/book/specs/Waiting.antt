@@ -1,5 +1,6 @@
 -- What is held while an expression is read: the waiting parts as the two rows that they amount to.
-use Rattle.std.specs.Prelude.{◌≡◌, ℕ, ◌+◌, ◌-◌, ◌<◌, ◌≤◌, List, [], ◌∷◌, ◌++◌, length, take, slice_index, slice_index_or}
+use Rattle.std.specs.Prelude.{◌≡◌, ℕ, ◌+◌, ◌-◌, ◌<◌, ◌≤◌, List, [], ◌∷◌, ◌++◌, length, slice_index, slice_index_or}
+use Rattle.arrayvec.specs.ArrayVec.{array_vec_len}
 use Rattle.refusal.specs.declared.fault.FieldFault.{FieldFault}
 use Rattle.refusal.specs.declared.fault.FieldFault.TheVariants as field
 use Rattle.book.specs.declared.slicing.Waiting.{Waiting}
@@ -27,19 +28,21 @@ begins (p ∷ ps) = begins ps ++ (length (in_row leaves ps) ∷ [])
 
 -- w has the rows of these waiting parts
 pub record Holds (ps : List Part) (w : Waiting) : Type 0 where
-  pub parts : w.parts ≡ length ps
-  pub cells : w.cells ≡ length (in_row leaves ps)
-  pub starts : take w.parts w.starts ≡ begins ps
-  pub first : take w.cells w.first ≡ in_row upper ps
-  pub second : take w.cells w.second ≡ in_row leaves ps
+  pub starts : w.starts.items ≡ begins ps
+  pub first : w.first.items ≡ in_row upper ps
+  pub second : w.second.items ≡ in_row leaves ps
 
--- two parts wait at least, and the last two begin in order within the rows
+-- there is room for one part more, and for one cell more in each row
+pub record Roomy (w : Waiting) : Type 0 where
+  pub starts : array_vec_len w.starts < most_cells
+  pub first : array_vec_len w.first < most_cells
+  pub second : array_vec_len w.second < most_cells
+
+-- two parts wait at least, and the last two begin in order within the first row
 pub record Stackable (w : Waiting) : Type 0 where
-  pub two : 2 ≤ w.parts
-  pub few : w.parts ≤ most_cells
-  pub ascend : slice_index_or w.starts (w.parts - 2) 0 ≤ slice_index w.starts (w.parts - 1)
-  pub inside : slice_index_or w.starts (w.parts - 1) 0 ≤ w.cells
-  pub fit : w.cells ≤ most_cells
+  pub two : 2 ≤ array_vec_len w.starts
+  pub ascend : slice_index_or w.starts.items (array_vec_len w.starts - 2) 0 ≤ slice_index w.starts.items (array_vec_len w.starts - 1)
+  pub inside : slice_index_or w.starts.items (array_vec_len w.starts - 1) 0 ≤ array_vec_len w.first
 
 -- the parts have cells of n only, and each in one place only
 abbrev pub Once : ℕ → List Part → Type 0
@@ -56,8 +59,8 @@ pub record Whole (n : ℕ) (expr : List ℕ) (w : Waiting) : Type 0 where
   pub part : Part
   pub read : Reads n expr [] (part ∷ [])
   pub row : Row n (leaves part)
-  pub first : take n w.first ≡ upper part
-  pub second : take n w.second ≡ leaves part
+  pub first : w.first.items ≡ upper part
+  pub second : w.second.items ≡ leaves part
 
 -- the fault names the first number that breaks the expression
 abbrev pub BreaksAt : ℕ → List ℕ → FieldFault → Type 0

@@ -9,18 +9,12 @@ use crate::relation::Relation;
 pub fn is_left<B: Book>(book: &B, a: usize, b: usize) -> bool
     ensures { Decides result (LeftOf (B.Book.order book.now) a b) }
 {
-    match book.relation(a, b) {
-        Ok(relation) => relation == Relation::Left,
-        Err(_) => false,
-    }
+    book.relation(a, b) == Ok(Relation::Left)
 }
 
 /// Is `a` above `b`? (No, where they are not two different cells.)
 pub fn is_above<B: Book>(book: &B, a: usize, b: usize) -> bool
     ensures { Decides result (AboveOf (B.Book.order book.now) a b) }
 {
-    match book.relation(a, b) {
-        Ok(relation) => relation == Relation::Above,
-        Err(_) => false,
-    }
+    book.relation(a, b) == Ok(Relation::Above)
 }

@@ -1,10 +1,11 @@
 //! The interface of every book.
 ghost use Rattle.std.specs.Prelude.{◌≡◌, ℕ, Ok, MatchResult};
 ghost use Rattle.book.specs.Order.{Order, Laws, SameOrder, swapped};
-ghost use Rattle.book.specs.Calls.{asked, of_cells};
+ghost use Rattle.book.specs.Calls.{asked, of_cell, of_cells};
+ghost use Rattle.book.specs.Counts.{Countable, BadCount};
 
-use crate::relation::Relation;
-use refusal::SheetFault;
+use crate::relation::{MOST_CELLS, Relation};
+use refusal::{FieldFault, SheetFault};
 
 /// A book tells how its cells, numbered from 0, lie to one another.
 ///
@@ -28,15 +29,30 @@ pub trait Book {
     ghost lawful: { (s : Self) → Laws (order s) };
 }
 
-/// Refuses the first of two numbers that is no cell of `n`.
-pub fn within(n: usize, a: usize, b: usize) -> Result<(), SheetFault>
-    ensures { result ≡ of_cells n a b (Ok tt) }
+/// Refuses a number that is no cell of `n`.
+pub fn cell_within(n: usize, a: usize) -> Result<(), SheetFault>
+    ensures { result ≡ of_cell n a (Ok tt) }
 {
     if a >= n {
         return Err(SheetFault::NoSuchCell { cell: a });
     }
-    if b >= n {
-        return Err(SheetFault::NoSuchCell { cell: b });
+    Ok(())
+}
+
+/// Refuses the first of two numbers that is no cell of `n`.
+pub fn within(n: usize, a: usize, b: usize) -> Result<(), SheetFault>
+    ensures { result ≡ of_cells n a b (Ok tt) }
+{
+    cell_within(n, a)?;
+    cell_within(n, b)
+}
+
+/// Refuses a number of cells that no book can have.
+pub(crate) fn countable(n: usize) -> Result<(), SheetFault>
+    ensures { MatchResult result (λ _. Countable n) (BadCount n) }
+{
+    if n == 0 || n > MOST_CELLS {
+        return Err(SheetFault::Field(FieldFault::CellCount { at: 0, count: n }));
     }
     Ok(())
 }

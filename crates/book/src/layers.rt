@@ -1,94 +1,111 @@
-//! The two layers over any book: transposed and flipped.
+//! The layers over any book: each turns every relation that the book under it tells.
 ghost use Rattle.std.specs.Prelude.{◌≡◌};
+ghost use Rattle.book.specs.declared.relation.Relation.{Relation};
 ghost use Rattle.book.specs.Order.{SameOrder};
 ghost use Rattle.book.specs.Turns.{transpose, flip, turned};
-ghost use Rattle.book.specs.Turned.{turned_laws, transpose_turn, flip_turn};
+ghost use Rattle.book.specs.Turned.{Turn, turned_laws, transpose_turn, flip_turn};
 
 use crate::book::Book;
 use crate::relation::Relation;
 use refusal::SheetFault;
+use std::marker::PhantomData;
+
+/// A way to turn a book: what becomes of each relation.
+///
+/// It keeps the four relations, undoes itself, and turns opposites into opposites, so a turned book is a book.
+pub trait Turn {
+    ghost turn: { Relation → Relation };
+
+    /// The relation, turned.
+    fn turned(relation: Relation) -> Relation
+        ensures { result ≡ turn relation };
+
+    ghost lawful: { Turn turn };
+}
+
+/// About the diagonal: left becomes below, and above becomes right.
+#[derive(Clone, Copy)]
+pub struct Diagonal;
+
+impl Turn for Diagonal {
+    ghost turn = { transpose };
+
+    ghost lawful = { transpose_turn };
+
+    fn turned(relation: Relation) -> Relation {
+        match relation {
+            Relation::Left => Relation::Below,
+            Relation::Right => Relation::Above,
+            Relation::Above => Relation::Right,
+            Relation::Below => Relation::Left,
+        }
+    }
+}
+
+/// In a mirror: left and right are exchanged.
+#[derive(Clone, Copy)]
+pub struct Mirror;
+
+impl Turn for Mirror {
+    ghost turn = { flip };
+
+    ghost lawful = { flip_turn };
+
+    fn turned(relation: Relation) -> Relation {
+        match relation {
+            Relation::Left => Relation::Right,
+            Relation::Right => Relation::Left,
+            Relation::Above => Relation::Above,
+            Relation::Below => Relation::Below,
+        }
+    }
+}
+
+/// A layer: the book under it, every relation turned.
+#[derive(Clone, Copy, Drop)]
+pub struct Turned<T, B> {
+    book: B,
+    turn: PhantomData<T>,
+}
 
 /// A book turned about its diagonal: a cell is left of those that it is below of in the book under it, and above those
 /// that are left of it there.
-#[derive(Clone, Copy, Drop)]
-pub struct Transposed<B> {
-    book: B,
-}
+pub type Transposed<B> = Turned<Diagonal, B>;
 
 /// A book seen in a mirror: left and right are exchanged.
-#[derive(Clone, Copy, Drop)]
-pub struct Flipped<B> {
-    book: B,
-}
+pub type Flipped<B> = Turned<Mirror, B>;
 
-fn transpose_answer(relation: Relation) -> Relation
-    ensures { result ≡ transpose relation }
-{
-    match relation {
-        Relation::Left => Relation::Below,
-        Relation::Right => Relation::Above,
-        Relation::Above => Relation::Right,
-        Relation::Below => Relation::Left,
-    }
-}
-
-fn flip_answer(relation: Relation) -> Relation
-    ensures { result ≡ flip relation }
-{
-    match relation {
-        Relation::Left => Relation::Right,
-        Relation::Right => Relation::Left,
-        Relation::Above => Relation::Above,
-        Relation::Below => Relation::Below,
-    }
-}
-
-impl<B: Book> Transposed<B> {
-    /// The book, transposed.
-    pub fn new(book: B) -> Transposed<B>
+impl<T: Turn, B: Book> Turned<T, B> {
+    /// The book, turned.
+    pub fn new(book: B) -> Turned<T, B>
         ensures { result.book ≡ book }
     {
-        Transposed { book }
+        Turned {
+            book,
+            turn: PhantomData,
+        }
     }
 
     /// The book under the layer, with every swap made through it.
     pub fn into_inner(self) -> B
         ensures { result ≡ self.book }
     {
-        let Transposed { book } = self;
+        let Turned { book, turn: _ } = self;
         book
     }
 }
 
-impl<B: Book> Flipped<B> {
-    /// The book, flipped.
-    pub fn new(book: B) -> Flipped<B>
-        ensures { result.book ≡ book }
-    {
-        Flipped { book }
-    }
+impl<T: Turn, B: Book> Book for Turned<T, B> {
+    ghost order = { λ s. turned T.turn (B.Book.order s.book) };
 
-    /// The book under the layer, with every swap made through it.
-    pub fn into_inner(self) -> B
-        ensures { result ≡ self.book }
-    {
-        let Flipped { book } = self;
-        book
-    }
-}
-
-impl<B: Book> Book for Transposed<B> {
-    ghost order = { λ s. turned transpose (B.Book.order s.book) };
-
-    ghost lawful = { λ s. turned_laws transpose_turn (B.Book.order s.book) (B.Book.lawful s.book) };
+    ghost lawful = { λ s. turned_laws T.lawful (B.Book.order s.book) (B.Book.lawful s.book) };
 
     fn count(&self) -> usize {
         self.book.count()
     }
 
     fn relation(&self, a: usize, b: usize) -> Result<Relation, SheetFault> {
-        let under = self.book.relation(a, b)?;
-        Ok(transpose_answer(under))
+        Ok(T::turned(self.book.relation(a, b)?))
     }
 
     fn swap(&mut self, a: usize, b: usize) -> Result<(), SheetFault> {
@@ -96,35 +113,9 @@ impl<B: Book> Book for Transposed<B> {
     }
 }
 
-impl<B: Book> Book for Flipped<B> {
-    ghost order = { λ s. turned flip (B.Book.order s.book) };
-
-    ghost lawful = { λ s. turned_laws flip_turn (B.Book.order s.book) (B.Book.lawful s.book) };
-
-    fn count(&self) -> usize {
-        self.book.count()
-    }
-
-    fn relation(&self, a: usize, b: usize) -> Result<Relation, SheetFault> {
-        let under = self.book.relation(a, b)?;
-        Ok(flip_answer(under))
-    }
-
-    fn swap(&mut self, a: usize, b: usize) -> Result<(), SheetFault> {
-        self.book.swap(a, b)
-    }
-}
-
-/// Transposing twice means the same book.
-pub fn transposed_twice<B: Book>(book: B) -> Transposed<Transposed<B>>
-    ensures { SameOrder (B.Book.order book) (turned transpose (turned transpose (B.Book.order result.book.book))) }
+/// Turning twice the same way means the same book.
+pub fn turned_twice<T: Turn, B: Book>(book: B) -> Turned<T, Turned<T, B>>
+    ensures { SameOrder (B.Book.order book) (turned T.turn (turned T.turn (B.Book.order result.book.book))) }
 {
-    Transposed::new(Transposed::new(book))
-}
-
-/// Flipping twice means the same book.
-pub fn flipped_twice<B: Book>(book: B) -> Flipped<Flipped<B>>
-    ensures { SameOrder (B.Book.order book) (turned flip (turned flip (B.Book.order result.book.book))) }
-{
-    Flipped::new(Flipped::new(book))
+    Turned::new(Turned::new(book))
 }

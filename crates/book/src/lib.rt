@@ -11,8 +11,8 @@ mod slicing;
 mod slicing_book;
 
 pub use asking::{is_above, is_left};
-pub use book::{Book, within};
-pub use layers::{Flipped, Transposed, flipped_twice, transposed_twice};
+pub use book::{Book, cell_within, within};
+pub use layers::{Diagonal, Flipped, Mirror, Transposed, Turn, Turned, turned_twice};
 pub use relation::{MOST_CELLS, Relation};
 pub use sequence_pair::SequencePair;
 pub use slicing_book::{

@@ -1,19 +1,14 @@
 //! The sequence-pair as a book: filling, questions, swaps.
-ghost use Rattle.std.specs.Prelude.{◌≡◌, ℕ, ◌<◌, ◌≤◌, length, Ok, Err, MatchResult};
-ghost use Rattle.book.specs.Order.{Order, most_cells};
-ghost use Rattle.book.specs.Counts.{FirstWith};
-ghost use Rattle.book.specs.Rows.{Breaks, Row, Rows, NoRows};
-ghost use Rattle.book.specs.Places.{compared, by_places};
+ghost use Rattle.std.specs.Prelude.{◌≡◌, ◌≤◌, length, MatchResult};
+ghost use Rattle.book.specs.Order.{most_cells};
+ghost use Rattle.book.specs.Rows.{Rows, NoRows};
 ghost use Rattle.book.specs.Sequence.{sequence_order, Inverse, BreaksAt};
 ghost use Rattle.std.proofs.Common.{rules};
 
-use crate::book::{Book, within};
+use crate::book::{Book, countable, within};
 use crate::relation::{MOST_CELLS, Relation};
 use crate::sequence_pair::SequencePair;
 use refusal::{FieldFault, SheetFault};
-
-/// What stands in a table of places for a cell that has not come yet: no place of any row.
-const NOWHERE: u8 = 64;
 
 /// The place of each cell of a row; `list` is the row's place among the order's lists.
 fn places_of(n: usize, list: usize, row: &[usize]) -> Result<[u8; MOST_CELLS], FieldFault>
@@ -21,31 +16,18 @@ fn places_of(n: usize, list: usize, row: &[usize]) -> Result<[u8; MOST_CELLS], F
     requires long { length row.now ≡ n }
     ensures { MatchResult result (λ places. Inverse n row.now places) (λ f. BreaksAt n list row.now f) }
 {
-    let mut places = [NOWHERE; MOST_CELLS];
+    let mut places = [0; MOST_CELLS];
     for (i, cell) in row.iter().enumerate() {
-        let cell = *cell;
-        if cell >= n || places[cell] != NOWHERE {
+        if *cell >= n || row[..i].contains(cell) {
             return Err(FieldFault::Order {
                 at: 0,
                 list,
                 place: i,
             });
         }
-        places[cell] = i as u8;
+        places[*cell] = i as u8;
     }
     Ok(places)
-}
-
-/// How a cell at the places `p` and `q` lies to one at the places `r` and `s`.
-fn compare_places(p: u8, q: u8, r: u8, s: u8) -> Relation
-    ensures { result ≡ compared p q r s }
-{
-    match (p < r, q < s) {
-        (true, true) => Relation::Left,
-        (true, false) => Relation::Above,
-        (false, true) => Relation::Below,
-        (false, false) => Relation::Right,
-    }
 }
 
 impl SequencePair {
@@ -53,9 +35,7 @@ impl SequencePair {
     pub fn new(n: usize, first: &[usize], second: &[usize]) -> Result<SequencePair, SheetFault>
         ensures { MatchResult result (λ s. Rows n first.now second.now (sequence_order s)) (λ f. NoRows n first.now second.now f) }
     {
-        if n == 0 || n > MOST_CELLS {
-            return Err(SheetFault::Field(FieldFault::CellCount { at: 0, count: n }));
-        }
+        countable(n)?;
         if first.len() != n {
             return Err(SheetFault::ListLength { list: 1 });
         }
@@ -94,7 +74,14 @@ impl Book for SequencePair {
         if a == b {
             return Err(SheetFault::SameCell { cell: a });
         }
-        Ok(compare_places(self.first[a], self.second[a], self.first[b], self.second[b]))
+        let earlier_in_first = self.first[a] < self.first[b];
+        let earlier_in_second = self.second[a] < self.second[b];
+        Ok(match (earlier_in_first, earlier_in_second) {
+            (true, true) => Relation::Left,
+            (true, false) => Relation::Above,
+            (false, true) => Relation::Below,
+            (false, false) => Relation::Right,
+        })
     }
 
     fn swap(&mut self, a: usize, b: usize) -> Result<(), SheetFault> {

@@ -1,7 +1,7 @@
 //! The sequence-pair: what it holds. (How it is filled and read stands in `sequence_book`.)
-ghost use Rattle.std.specs.Prelude.{◌≡◌, ℕ, ◌<◌, ◌≤◌, length};
+ghost use Rattle.std.specs.Prelude.{◌≤◌};
 ghost use Rattle.book.specs.Order.{most_cells};
-ghost use Rattle.book.specs.Places.{Within, Once};
+ghost use Rattle.book.specs.Places.{Places};
 
 use crate::relation::MOST_CELLS;
 
@@ -17,10 +17,6 @@ pub struct SequencePair {
     pub(crate) second: [u8; MOST_CELLS],
     ghost some: { 1 ≤ count },
     ghost few: { count ≤ most_cells },
-    ghost first_long: { length first ≡ most_cells },
-    ghost second_long: { length second ≡ most_cells },
-    ghost first_in: { Within count first },
-    ghost first_once: { Once count first },
-    ghost second_in: { Within count second },
-    ghost second_once: { Once count second },
+    ghost first_row: { Places count first },
+    ghost second_row: { Places count second },
 }

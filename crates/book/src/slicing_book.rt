@@ -1,14 +1,14 @@
 //! The slicing book: filling, questions, swaps.
-ghost use Rattle.std.specs.Prelude.{◌≡◌, Ok, Err, MatchResult};
+ghost use Rattle.std.specs.Prelude.{◌≡◌, MatchResult};
 ghost use Rattle.book.specs.Sequence.{sequence_order};
 ghost use Rattle.book.specs.Slicing.{Expression, NoExpression, ExpressionNeverRefused, BesideEarlierIsLeft, StackedLaterIsAbove};
 ghost use Rattle.std.proofs.Common.{rules};
 
-use crate::book::Book;
-use crate::relation::{MOST_CELLS, Relation};
+use crate::book::{Book, countable};
+use crate::relation::Relation;
 use crate::sequence_pair::SequencePair;
 use crate::slicing::read_expression;
-use refusal::{FieldFault, SheetFault};
+use refusal::SheetFault;
 
 /// A book of parts joined in twos, side by side or one above the other, until one part has every cell.
 ///
@@ -24,14 +24,12 @@ impl Slicing {
     pub fn new(n: usize, expression: &[usize]) -> Result<Slicing, SheetFault>
         ensures { MatchResult result (λ s. Expression n expression.now (sequence_order s.pair)) (λ f. NoExpression n expression.now f) }
     {
-        if n == 0 || n > MOST_CELLS {
-            return Err(SheetFault::Field(FieldFault::CellCount { at: 0, count: n }));
-        }
+        countable(n)?;
         if expression.len() != 2 * n - 1 {
             return Err(SheetFault::ListLength { list: 1 });
         }
         let rows = read_expression(n, expression)?;
-        let pair = SequencePair::new(n, &rows.first[0..n], &rows.second[0..n])?;
+        let pair = SequencePair::new(n, &rows.first, &rows.second)?;
         Ok(Slicing { pair })
     }
 

@@ -1,6 +1,6 @@
 -- Both tables have the two cells' places exchanged, so they stay lawful, and every relation has the two names exchanged.
-use Rattle.std.proofs.Common.{refl, ◌∙◌}
-use Rattle.book.proofs.Trade.{traded, traded_within, traded_once}
+use Rattle.std.proofs.Common.{refl}
+use Rattle.book.proofs.Trade.{traded, traded_places}
 use Rattle.book.proofs.Cells.{cells_in}
 use Rattle.book.proofs.sequence_book.SequencePairBook.swap.Goals as goal
 
@@ -17,12 +17,8 @@ invariant_of-self c =
     record {
       some = s.some;
       few = s.few;
-      first_long = c.swap.ensures.len ∙ s.first_long;
-      second_long = c.swap-2.ensures.len ∙ s.second_long;
-      first_in = traded_within s.first first a b p.0 p.1 p.2 s.count ok.a_in ok.b_in s.first_in;
-      first_once = traded_once s.first first a b p.0 p.1 p.2 s.count ok.a_in ok.b_in s.first_once;
-      second_in = traded_within s.second second a b q.0 q.1 q.2 s.count ok.a_in ok.b_in s.second_in;
-      second_once = traded_once s.second second a b q.0 q.1 q.2 s.count ok.a_in ok.b_in s.second_once;
+      first_row = traded_places s.first first a b p.0 p.1 p.2 s.count ok.a_in ok.b_in c.swap.ensures.len s.first_row;
+      second_row = traded_places s.second second a b q.0 q.1 q.2 s.count ok.a_in ok.b_in c.swap-2.ensures.len s.second_row;
     }
 
 pub returns : goal.returns

@@ -1,57 +1,42 @@
 -- Each refusal by the test or the row that caused it; the book by its two rows turned round.
-use Rattle.std.proofs.Common.{sym, refl, subst, arith}
+use Rattle.std.proofs.Common.{refl, ap}
 use Rattle.refusal.specs.declared.fault.SheetFault.TheVariants as sheet
 use Rattle.book.specs.Rows.{NoRows, bad_count, first_length, second_length, first_breaks, second_breaks}
-use Rattle.book.proofs.Exits.{exit_with}
-use Rattle.book.proofs.Inverses.{inverse_row, inverse_within, inverse_once, told_by_places}
+use Rattle.book.proofs.Exits.{exit_told}
+use Rattle.book.proofs.Inverses.{inverse_row, inverse_places, told_by_places}
 use Rattle.book.proofs.sequence_pair.SequencePair.new.Goals as goal
 
-pub returns-then-n-eq0 : goal.returns-then-n-eq0
-returns-then-n-eq0 c = bad_count (λ k. omega (arith, k.0, k.1, c.then-n-eq0.either))
+pub returns-in_err-countable : goal.returns-in_err-countable
+returns-in_err-countable c =
+    let f = c.in_err-countable.ensures in
+    exit_told _ (NoRows c.args.n c.args.first.now c.args.second.now) c.from_residual.result _ _ c.from_residual.ensures.1 f.told (bad_count f.out)
 
 pub returns-then-first-n : goal.returns-then-first-n
-returns-then-first-n c = first_length (omega arith, c.if-n-gt-MOST_CELLS.false) c.if-first-n.true
+returns-then-first-n c = first_length c.in_ok-countable.ensures c.if-first-n.true
 
 pub returns-then-second-n : goal.returns-then-second-n
-returns-then-second-n c = second_length (omega arith, c.if-n-gt-MOST_CELLS.false) c.if-first-n.false c.if-second-n.true
+returns-then-second-n c = second_length c.in_ok-countable.ensures c.if-first-n.false c.if-second-n.true
 
 pub returns-in_err-first : goal.returns-in_err-first
 returns-in_err-first c =
-    let n = c.args.n in
-    let first = c.args.first.now in
-    let second = c.args.second.now in
     let f = c.in_err-first.ensures in
-    exit_with _ (NoRows n first second) c.from_residual.result (sheet.Field c.in_err-first.field-0.0) c.from_residual.ensures.1
-    (subst (λ x. NoRows n first second (sheet.Field x)) (sym f.2) (first_breaks (omega arith, c.if-n-gt-MOST_CELLS.false) c.if-first-n.false c.if-second-n.false f.1))
+    exit_told _ (NoRows c.args.n c.args.first.now c.args.second.now) c.from_residual-in_err-first.result _ _ c.from_residual-in_err-first.ensures.1 (ap sheet.Field f.2)
+    (first_breaks c.in_ok-countable.ensures c.if-first-n.false c.if-second-n.false f.1)
 
 pub returns-in_err-second : goal.returns-in_err-second
 returns-in_err-second c =
-    let n = c.args.n in
-    let first = c.args.first.now in
-    let second = c.args.second.now in
     let f = c.in_err-second.ensures in
-    exit_with _ (NoRows n first second) c.from_residual-in_err-second.result (sheet.Field c.in_err-second.field-0.0) c.from_residual-in_err-second.ensures.1
-    (subst (λ x. NoRows n first second (sheet.Field x)) (sym f.2) (second_breaks (omega arith, c.if-n-gt-MOST_CELLS.false) (inverse_row n first c.in_ok-first.first c.if-first-n.false c.in_ok-first.ensures) c.if-second-n.false f.1))
+    let first_row = inverse_row c.args.n c.args.first.now c.in_ok-first.first c.if-first-n.false c.in_ok-first.ensures in
+    exit_told _ (NoRows c.args.n c.args.first.now c.args.second.now) c.from_residual-in_err-second.result _ _ c.from_residual-in_err-second.ensures.1 (ap sheet.Field f.2)
+    (second_breaks c.in_ok-countable.ensures first_row c.if-second-n.false f.1)
 
 pub invariant_of-result : goal.invariant_of-result
-invariant_of-result c =
-    let n = c.args.n in
-    let first = c.args.first.now in
-    let second = c.args.second.now in
-    let p = c.in_ok-first.first in
-    let q = c.in_ok-second.second in
-    let one = c.in_ok-first.ensures in
-    let two = c.in_ok-second.ensures in
-    record {
-      some = omega arith;
-      few = c.if-n-gt-MOST_CELLS.false;
-      first_long = one.long;
-      second_long = two.long;
-      first_in = inverse_within n first p c.if-first-n.false one;
-      first_once = inverse_once n first p c.if-first-n.false one;
-      second_in = inverse_within n second q c.if-second-n.false two;
-      second_once = inverse_once n second q c.if-second-n.false two;
-    }
+invariant_of-result c = record {
+  some = c.in_ok-countable.ensures.0;
+  few = c.in_ok-countable.ensures.1;
+  first_row = inverse_places c.args.n c.args.first.now c.in_ok-first.first c.if-first-n.false c.in_ok-first.ensures;
+  second_row = inverse_places c.args.n c.args.second.now c.in_ok-second.second c.if-second-n.false c.in_ok-second.ensures;
+}
 
 pub returns : goal.returns
 returns c =

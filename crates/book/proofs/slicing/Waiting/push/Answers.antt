@@ -1,6 +1,10 @@
-use Rattle.std.proofs.Common.{arith}
-use Rattle.book.proofs.Holding.{push_holds}
+use Rattle.std.proofs.Common.{ap, length}
 use Rattle.book.proofs.slicing.Waiting.push.Goals as goal
 
 pub returns : goal.returns
-returns c ps h = push_holds ps c.args.self.now c.args.number h c.requires.room (omega arith) (omega arith) (omega arith)
+returns c ps h =
+    let begun = h.starts in
+    let first = h.first in
+    let second = h.second in
+    let n = ap length h.second in
+    record { starts = cc; first = cc; second = cc }

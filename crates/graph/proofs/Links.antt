@@ -7,16 +7,14 @@ use Rattle.graph.specs.declared.node_set.NodeSet.{NodeSet}
 use Rattle.graph.specs.Nodes.{Has, none}
 use Rattle.graph.specs.Members.{Inserted}
 
-pub none_has : (u : ℕ) → Has none u → ⊥
+none_has : (u : ℕ) → Has none u → ⊥
 none_has u h = let z : ◌≡◌ {A = ℕ} 0 1 = sym (ap (λ x. x % 2) (zero-div (2 ^ u))) ∙ h in omega arith
 
-all_none : (n v : ℕ) → get_or (replicate n none) v none ≡ none
-all_none zero v = refl
-all_none (suc n) zero = refl
-all_none (suc n) (suc v) = all_none n v
-
-pub none_next : (n v u : ℕ) → Has (get_or (replicate n none) v none) u → ⊥
-none_next n v u h = none_has u (subst (λ s. Has s u) (all_none n v) h)
+-- nothing comes next where each entry is a set of none
+pub none_next : (s : NodeSet) → ((u : ℕ) → Has s u → ⊥) → (n v u : ℕ) → Has (get_or (replicate n s) v none) u → ⊥
+none_next s bare zero v u h = none_has u h
+none_next s bare (suc n) zero u h = bare u h
+none_next s bare (suc n) (suc v) u h = none_next s bare n v u h
 
 pub linked_within : (next : List NodeSet) (n v u : ℕ) (t : NodeSet) → ((x y : ℕ) → Has (get_or next x none) y → y < n) → v < length next → u < n → Inserted (get_or next v none) t u → (x y : ℕ) → Has (get_or (set next v t) x none) y → y < n
 linked_within next n v u t within inside low new x y h = ⊎_elim

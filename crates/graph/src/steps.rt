@@ -17,7 +17,7 @@ impl Graph {
         }
         Some(Graph {
             nodes,
-            next: [NodeSet(0); MOST_NODES],
+            next: [NodeSet::empty(); MOST_NODES],
         })
     }
 
@@ -33,9 +33,7 @@ impl Graph {
         ensures { Linked self.old self.new v u }
     {
         if v < self.nodes && u < self.nodes {
-            let mut set = self.next[v];
-            set.insert(u);
-            self.next[v] = set;
+            self.next[v].insert(u);
         }
     }
 

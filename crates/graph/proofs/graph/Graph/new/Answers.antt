@@ -8,8 +8,8 @@ invariant_of-result c =
     record {
       few = c.if-nodes-gt-MOST_NODES.false;
       long = refl;
-      within = λ v u h. absurd (none_next most_nodes v u h);
+      within = λ v u h. absurd (none_next c.empty.result c.empty.ensures most_nodes v u h);
     }
 
 pub returns : goal.returns
-returns c = (c.if-nodes-gt-MOST_NODES.false, record { count = refl; nothing = λ v u h. none_next most_nodes v u h.1 })
+returns c = (c.if-nodes-gt-MOST_NODES.false, record { count = refl; nothing = λ v u h. none_next c.empty.result c.empty.ensures most_nodes v u h.1 })

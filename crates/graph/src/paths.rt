@@ -47,10 +47,10 @@ struct Walk<'a, T> {
 }
 
 impl<T: Length> Walk<'_, T> {
-    ghost use Rattle.std.specs.Prelude.{◌≡◌, ℕ, ◌<◌, ◌≤◌, IfSome, IsSome, slice_index_or};
+    ghost use Rattle.std.specs.Prelude.{◌≡◌, ◌<◌, ◌≤◌, IfSome, IsSome};
     ghost use Rattle.graph.specs.Nodes.{Has, most_nodes};
     ghost use Rattle.graph.specs.Heaviest.{dealt, Light};
-    ghost use Rattle.graph.specs.Settling.{Reach, Settled};
+    ghost use Rattle.graph.specs.Settling.{Reach, SettledIn, GoneOn};
 
     /// What a node weighs.
     fn weight(&self, u: usize) -> T
@@ -65,10 +65,9 @@ impl<T: Length> Walk<'_, T> {
     fn settle(&mut self, v: usize, fuel: usize) -> Option<()>
         requires inside { v < self.old.graph.now.nodes }
         requires few { fuel ≤ most_nodes }
-        requires before { Settled T.Length.kind self.old.graph.now (dealt T.kind.zero self.old.weights.now) self.old.done (λ u. slice_index_or self.old.out.now u T.kind.zero) }
-        ensures same { (self.new.graph ≡ self.old.graph) × (self.new.weights ≡ self.old.weights) × (self.new.out.ghost_name ≡ self.old.out.ghost_name) }
-        ensures grows { (u : ℕ) → Has self.old.done u → Has self.new.done u }
-        ensures after { Settled T.Length.kind self.old.graph.now (dealt T.kind.zero self.old.weights.now) self.new.done (λ u. slice_index_or self.new.out.now u T.kind.zero) }
+        requires before { SettledIn T.Length.kind self.old }
+        ensures on { GoneOn self.old self.new }
+        ensures after { SettledIn T.Length.kind self.new }
         ensures reached { IfSome result (λ _. Has self.new.done v) }
         ensures finishes { Light T.Length.kind self.old.graph.now (dealt T.kind.zero self.old.weights.now) → Reach self.old.graph.now v fuel → IsSome result }
     {

@@ -134,13 +134,22 @@ module _ {V : Type 0} {k : Kind V} (laws : Laws k) (g : Graph) (weight : ℕ →
 pub settled_on : {V : Type 0} {k : Kind V} (w t : Walk V) → GoneOn w t → SettledIn k t → Settled k w.graph.now (dealt k.zero w.weights.now) t.done (λ u. get_or t.out.now u k.zero)
 settled_on w t on settled = rw (on.graph, on.weights) at settled
 
+-- the walk w gone on to t, in which u is done
+pub record DoneAt {V : Type 0} (k : Kind V) (w t : Walk V) (u : ℕ) : Type 0 where
+  pub on : GoneOn w t
+  pub settled : SettledIn k t
+  pub there : Has t.done u
+
+pub gone_same : {V : Type 0} (w : Walk V) → GoneOn w w
+gone_same w = record { graph = refl; weights = refl; place = refl; grown = λ u h. h }
+
 -- a turn of the loop: the node u is taken, and the walk has gone on to t, in which u is done
-module _ {V : Type 0} {k : Kind V} (laws : Laws k) (w before t : Walk V) (v u : ℕ) (left rest : NodeSet) (most : V) (way : Underway k w before v left most) (taken : Taken left rest u) (on : GoneOn before t) (settled : SettledIn k t) (reached : Has t.done u) where
+module _ {V : Type 0} {k : Kind V} (laws : Laws k) (w before t : Walk V) (v u : ℕ) (left rest : NodeSet) (most : V) (way : Underway k w before v left most) (taken : Taken left rest u) (next : DoneAt k before t u) where
   all_on : GoneOn w t
-  all_on = gone_on w before t way.on on
+  all_on = gone_on w before t way.on next.on
 
   known : Known k w.graph.now (dealt k.zero w.weights.now) u (Path (Step w.graph.now) u) (get_or t.out.now u k.zero)
-  known = settled_on w t all_on settled u reached
+  known = settled_on w t all_on next.settled u next.there
 
   step : Step w.graph.now v u
   step = way.steps u taken.member
@@ -149,7 +158,7 @@ module _ {V : Type 0} {k : Kind V} (laws : Laws k) (w before t : Walk V) (v u : 
   underway_more = record {
     on = all_on;
     begun = rw all_on.weights (begun_more laws w.graph.now (dealt k.zero w.weights.now) v u left rest most (get_or t.out.now u k.zero) way.begun taken step known);
-    settled = settled;
+    settled = next.settled;
     steps = λ x h. way.steps x (taken.only x h).0;
   }
 

@@ -29,7 +29,9 @@ impl Graph {
             done: NodeSet::empty(),
         };
         for v in 0..self.nodes {
-            walk.settle(v, self.nodes)?;
+            if !walk.done.contains(v) {
+                walk.settle(v, self.nodes)?;
+            }
         }
         Some(())
     }
@@ -71,13 +73,12 @@ impl<T: Length> Walk<'_, T> {
         ensures reached { IfSome result (λ _. Has self.new.done v) }
         ensures finishes { Light T.Length.kind self.old.graph.now (dealt T.kind.zero self.old.weights.now) → Reach self.old.graph.now v fuel → IsSome result }
     {
-        if self.done.contains(v) {
-            return Some(());
-        }
         let mut left = self.graph.next[v];
         let mut most = T::zero();
         while let Some(u) = left.take_first() {
-            self.settle(u, fuel.checked_sub(1)?)?;
+            if !self.done.contains(u) {
+                self.settle(u, fuel.checked_sub(1)?)?;
+            }
             most = most.join(self.out[u].plus(self.weight(u))?);
         }
         self.out[v] = most;

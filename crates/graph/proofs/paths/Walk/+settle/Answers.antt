@@ -3,8 +3,10 @@ use Rattle.std.proofs.Common.{◌≡◌, ℕ, ◌+◌, ◌-◌, ◌<◌, ◌≤�
 use Rattle.std.proofs.lemmas.Bool.{false≢true}
 use Rattle.std.proofs.lemmas.List.{get_or_default}
 use Rattle.graph.specs.Heaviest.{dealt}
-use Rattle.graph.proofs.Begins.{Underway, gone_on, taken_inside, reach_next, begun_none, begun_all, underway_more, sum_fits, settled_more}
+use Rattle.graph.specs.Settling.{SettledIn}
+use Rattle.graph.proofs.Begins.{Underway, DoneAt, gone_on, gone_same, taken_inside, reach_next, begun_none, begun_all, underway_more, sum_fits, settled_more}
 use Rattle.graph.proofs.paths.Walk.+settle.Goals as goal
+use Rattle.graph.proofs.paths.Walk.+settle.Goals.{then-not-contains+in_ok-checked_sub+in_ok-settle, else-not-contains}
 
 pub returns-in_err-checked_sub-clause-finishes : goal.returns-in_err-checked_sub-clause-finishes
 returns-in_err-checked_sub-clause-finishes g t c = λ small reach.
@@ -29,21 +31,37 @@ returns-in_err-settle-clause-finishes g t c = λ small reach.
 pub returns-in_err-plus-clause-finishes : goal.returns-in_err-plus-clause-finishes
 returns-in_err-plus-clause-finishes g t c = λ small reach.
     let k = g.T.Length.kind in
-    let walk = c.settle.new.self in
-    let walk_on = gone_on c.args.self.now c.loop-u.self walk c.loop-u.invariant.on c.settle.ensures.on in
+    let walk = c.if-not-contains.self in
     let u = c.in-Some.u in
-    let fits = sum_fits g.met.T.Length.laws c.args.self.now c.loop-u.self walk c.args.v u c.loop-u.left c.take_first.new.self c.loop-u.most c.loop-u.invariant c.in-Some.ensures c.settle.ensures.on c.settle.ensures.after c.in_ok-settle.ensures.reached c.args.fuel c.requires.few small reach in
+    let next : DoneAt k c.loop-u.self walk u = elim c.if-not-contains.branch [
+      then-not-contains+in_ok-checked_sub+in_ok-settle w ↦ subst (λ x. DoneAt k c.loop-u.self x u) (sym w.self-is) (record { on = w.settle.ensures.on; settled = w.settle.ensures.after; there = w.in_ok-settle.ensures.reached })
+      | else-not-contains w ↦ subst (λ x. DoneAt k c.loop-u.self x u) (sym w.self-is) (record { on = gone_same c.loop-u.self; settled = c.loop-u.invariant.settled; there = c.contains.ensures.0 w.if-not-contains.false })
+    ] in
+    let walk_on = gone_on c.args.self.now c.loop-u.self walk c.loop-u.invariant.on next.on in
+    let fits = sum_fits g.met.T.Length.laws c.args.self.now c.loop-u.self walk c.args.v u c.loop-u.left c.take_first.new.self c.loop-u.most c.loop-u.invariant c.in-Some.ensures next c.args.fuel c.requires.few small reach in
     let low : u < walk.graph.now.nodes = rw walk_on.graph (taken_inside c.args.self.now.graph.now c.args.v u c.loop-u.invariant.steps c.in-Some.ensures) in
     let both = ap₂ (λ x y. k.measure x + k.measure y) (get_or_default walk.out.now u c.index-self-u.result k.zero (omega (arith, walk.long))) c.weight.ensures in
     absurd (omega (arith, c.in_err-plus.ensures, both, fits))
 
+pub returns-in_err-plus-clause-after : goal.returns-in_err-plus-clause-after
+returns-in_err-plus-clause-after g t c =
+    let k = g.T.Length.kind in
+    elim c.if-not-contains.branch [
+      then-not-contains+in_ok-checked_sub+in_ok-settle w ↦ subst (SettledIn k) (sym w.self-is) w.settle.ensures.after
+      | else-not-contains w ↦ subst (SettledIn k) (sym w.self-is) c.loop-u.invariant.settled
+    ]
+
 pub loop-u-preserved : goal.loop-u-preserved
 loop-u-preserved g t c =
     let k = g.T.Length.kind in
-    let walk = c.settle.new.self in
-    let walk_on = gone_on c.args.self.now c.loop-u.self walk c.loop-u.invariant.on c.settle.ensures.on in
+    let walk = c.if-not-contains.self in
     let u = c.in-Some.u in
-    let more = underway_more g.met.T.Length.laws c.args.self.now c.loop-u.self walk c.args.v u c.loop-u.left c.take_first.new.self c.loop-u.most c.loop-u.invariant c.in-Some.ensures c.settle.ensures.on c.settle.ensures.after c.in_ok-settle.ensures.reached in
+    let next : DoneAt k c.loop-u.self walk u = elim c.if-not-contains.branch [
+      then-not-contains+in_ok-checked_sub+in_ok-settle w ↦ subst (λ x. DoneAt k c.loop-u.self x u) (sym w.self-is) (record { on = w.settle.ensures.on; settled = w.settle.ensures.after; there = w.in_ok-settle.ensures.reached })
+      | else-not-contains w ↦ subst (λ x. DoneAt k c.loop-u.self x u) (sym w.self-is) (record { on = gone_same c.loop-u.self; settled = c.loop-u.invariant.settled; there = c.contains.ensures.0 w.if-not-contains.false })
+    ] in
+    let walk_on = gone_on c.args.self.now c.loop-u.self walk c.loop-u.invariant.on next.on in
+    let more = underway_more g.met.T.Length.laws c.args.self.now c.loop-u.self walk c.args.v u c.loop-u.left c.take_first.new.self c.loop-u.most c.loop-u.invariant c.in-Some.ensures next in
     let low : u < walk.graph.now.nodes = rw walk_on.graph (taken_inside c.args.self.now.graph.now c.args.v u c.loop-u.invariant.steps c.in-Some.ensures) in
     let here = get_or_default walk.out.now u c.index-self-u.result k.zero (omega (arith, walk.long)) in
     let joined = c.join-most.ensures ∙ ap (k.join c.loop-u.most) (c.in_ok-plus.ensures.1 ∙ ap₂ k.plus here c.weight.ensures) in

@@ -1,5 +1,5 @@
 -- The join over the paths from a node, made by one next node after another, and what a turn of that loop keeps. Assumes nothing.
-use Rattle.std.proofs.Common.{◌≡◌, ℕ, ◌+◌, ◌-◌, ◌*◌, ◌<◌, ◌≤◌, List, [], ◌∷◌, length, get_or, set, sym, refl, subst, ◌∙◌, inl, ⊎_elim, arith}
+use Rattle.std.proofs.Common.{◌≡◌, ℕ, ◌+◌, ◌-◌, ◌*◌, ◌<◌, ◌≤◌, List, [], ◌∷◌, length, get_or, set, sym, refl, subst, ◌∙◌, ⊎_elim, arith}
 use Rattle.std.proofs.lemmas.List.{get_or-set_same, get_or-set_other}
 use Rattle.std.proofs.lemmas.Bool.{cases_eq}
 use Rattle.length.specs.Kind.{Kind, Laws, largest_size, sum_limit}
@@ -52,21 +52,6 @@ reach_next g v u n step reach = (some, λ us path. shorter us (reach (u ∷ us) 
     shorter us h = omega arith
 
 module _ {V : Type 0} {k : Kind V} (laws : Laws k) (g : Graph) (weight : ℕ → V) where
-  pub begun_none : (v : ℕ) (left : NodeSet) → ((u : ℕ) → Step g v u → Has left u) → Known k g weight v (Begun g v left) k.zero
-  begun_none v left all = record {
-    joined = record { above = above; least = λ b every. laws.zero_least b };
-    ends = (0, alone);
-    light = λ small n reach. inl refl;
-  }
-    where
-      above : (us : List ℕ) → Begun g v left us → k.at_most (total k weight us) k.zero
-      above [] h = laws.at_most_same _
-      above (u ∷ us) h = absurd (h.1 (all u h.0))
-
-      alone : (us : List ℕ) → Begun g v left us → length us ≤ 0
-      alone [] h = omega arith
-      alone (u ∷ us) h = absurd (h.1 (all u h.0))
-
   pub begun_all : (v : ℕ) (left : NodeSet) (x : V) → ((u : ℕ) → Has left u → ⊥) → Known k g weight v (Begun g v left) x → Known k g weight v (Path (Step g) v) x
   begun_all v left x nothing so = record {
     joined = join_same into from so.joined;

@@ -1,11 +1,8 @@
 -- The next nodes of a graph without steps, and of one with a step more. Assumes nothing.
-use Rattle.std.proofs.Common.{◌≡◌, ℕ, zero, suc, ◌%◌, ◌^◌, ◌<◌, List, length, get_or, set, replicate, sym, refl, ap, ◌∙◌, subst, ⊎_elim, arith}
+use Rattle.std.proofs.Common.{◌≡◌, ℕ, zero, suc, ◌%◌, ◌^◌, get_or, replicate, sym, ap, ◌∙◌, arith}
 use native.Mathlib.Nat.{zero-div}
-use Rattle.std.proofs.lemmas.List.{get_or-set_same, get_or-set_other}
-use Rattle.std.proofs.lemmas.Bool.{cases_eq}
 use Rattle.graph.specs.declared.node_set.NodeSet.{NodeSet}
 use Rattle.graph.specs.Nodes.{Has, none}
-use Rattle.graph.specs.Members.{Inserted}
 
 none_has : (u : ℕ) → Has none u → ⊥
 none_has u h = let z : ◌≡◌ {A = ℕ} 0 1 = sym (ap (λ x. x % 2) (zero-div (2 ^ u))) ∙ h in omega arith

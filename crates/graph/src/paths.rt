@@ -28,6 +28,7 @@ impl Graph {
             out,
             done: NodeSet::empty(),
         };
+        // the nodes are the numbers below their count
         for v in 0..self.nodes {
             if !walk.done.contains(v) {
                 walk.settle(v, self.nodes)?;
@@ -37,7 +38,7 @@ impl Graph {
     }
 }
 
-/// A search along the steps of a graph, with the nodes that are done: at those `out` has the join.
+/// A search along the steps of a graph: at the nodes that are done, `out` has the join.
 #[derive(Drop)]
 struct Walk<'a, T> {
     graph: &'a Graph,
@@ -54,16 +55,16 @@ impl<T: Length> Walk<'_, T> {
     ghost use Rattle.graph.specs.Heaviest.{dealt, Light};
     ghost use Rattle.graph.specs.Settling.{Reach, SettledIn, GoneOn};
 
-    /// What a node weighs.
+    /// What the node `u` weighs. (Nodes are asked for in any order, so the weights are dealt out by the number.)
     fn weight(&self, u: usize) -> T
         ensures { result ≡ dealt T.kind.zero self.now.weights.now u }
     {
         self.weights[u % self.weights.len()]
     }
 
-    /// Writes to `out` the join at `v`, and before that at each node on a path from it, none of them twice.
+    /// Writes to `out` the join at `v`, and before that at each node on a path from it, except for those that are done.
     ///
-    /// `fuel` is how many steps the paths from `v` may have.
+    /// `fuel` is how many steps the paths from `v` may have. `None` only where one has more, or a sum passes the limit.
     fn settle(&mut self, v: usize, fuel: usize) -> Option<()>
         requires inside { v < self.old.graph.now.nodes }
         requires few { fuel ≤ most_nodes }

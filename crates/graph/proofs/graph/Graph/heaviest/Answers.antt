@@ -33,7 +33,7 @@ loop-v-preserved g c =
     let v = c.loop-v.v in
     let walk = c.if-not-contains.walk in
     let next : DoneAt k c.loop-v.walk walk v = elim c.if-not-contains.branch [
-      then-not-contains+in_ok-settle w ↦ subst (λ x. DoneAt k c.loop-v.walk x v) (sym w.walk-is) (record { on = w.settle.ensures.on; settled = w.settle.ensures.after; there = w.in_ok-settle.ensures.reached })
+      | then-not-contains+in_ok-settle w ↦ subst (λ x. DoneAt k c.loop-v.walk x v) (sym w.walk-is) (record { on = w.settle.ensures.on; settled = w.settle.ensures.after; there = w.in_ok-settle.ensures.reached })
       | else-not-contains w ↦ subst (λ x. DoneAt k c.loop-v.walk x v) (sym w.walk-is) (record { on = gone_same c.loop-v.walk; settled = so.settled; there = c.contains.ensures.0 w.if-not-contains.false })
     ] in
     record {

@@ -1,10 +1,10 @@
 -- A next node's join comes with the node; what is known of the paths begun grows by it, and at the last is known of all.
-use Rattle.std.proofs.Common.{◌≡◌, ℕ, ◌+◌, ◌-◌, ◌<◌, ◌≤◌, length, get_or, sym, ap, ◌∙◌, subst, ap₂, arith, rules}
+use Rattle.std.proofs.Common.{◌+◌, ◌<◌, sym, ap, ◌∙◌, subst, ap₂, arith}
 use Rattle.std.proofs.lemmas.Bool.{false≢true}
 use Rattle.std.proofs.lemmas.List.{get_or_default}
 use Rattle.graph.specs.Heaviest.{dealt}
 use Rattle.graph.specs.Settling.{SettledIn}
-use Rattle.graph.proofs.Begins.{Underway, DoneAt, gone_on, gone_same, taken_inside, reach_next, begun_none, begun_all, underway_more, sum_fits, settled_more}
+use Rattle.graph.proofs.Begins.{Underway, DoneAt, gone_on, gone_same, taken_inside, reach_next, begun_all, underway_more, sum_fits, settled_more}
 use Rattle.graph.proofs.paths.Walk.+settle.Goals as goal
 use Rattle.graph.proofs.paths.Walk.+settle.Goals.{then-not-contains+in_ok-checked_sub+in_ok-settle, else-not-contains}
 
@@ -34,7 +34,7 @@ returns-in_err-plus-clause-finishes g t c = λ small reach.
     let walk = c.if-not-contains.self in
     let u = c.in-Some.u in
     let next : DoneAt k c.loop-u.self walk u = elim c.if-not-contains.branch [
-      then-not-contains+in_ok-checked_sub+in_ok-settle w ↦ subst (λ x. DoneAt k c.loop-u.self x u) (sym w.self-is) (record { on = w.settle.ensures.on; settled = w.settle.ensures.after; there = w.in_ok-settle.ensures.reached })
+      | then-not-contains+in_ok-checked_sub+in_ok-settle w ↦ subst (λ x. DoneAt k c.loop-u.self x u) (sym w.self-is) (record { on = w.settle.ensures.on; settled = w.settle.ensures.after; there = w.in_ok-settle.ensures.reached })
       | else-not-contains w ↦ subst (λ x. DoneAt k c.loop-u.self x u) (sym w.self-is) (record { on = gone_same c.loop-u.self; settled = c.loop-u.invariant.settled; there = c.contains.ensures.0 w.if-not-contains.false })
     ] in
     let walk_on = gone_on c.args.self.now c.loop-u.self walk c.loop-u.invariant.on next.on in
@@ -47,7 +47,7 @@ pub returns-in_err-plus-clause-after : goal.returns-in_err-plus-clause-after
 returns-in_err-plus-clause-after g t c =
     let k = g.T.Length.kind in
     elim c.if-not-contains.branch [
-      then-not-contains+in_ok-checked_sub+in_ok-settle w ↦ subst (SettledIn k) (sym w.self-is) w.settle.ensures.after
+      | then-not-contains+in_ok-checked_sub+in_ok-settle w ↦ subst (SettledIn k) (sym w.self-is) w.settle.ensures.after
       | else-not-contains w ↦ subst (SettledIn k) (sym w.self-is) c.loop-u.invariant.settled
     ]
 
@@ -57,7 +57,7 @@ loop-u-preserved g t c =
     let walk = c.if-not-contains.self in
     let u = c.in-Some.u in
     let next : DoneAt k c.loop-u.self walk u = elim c.if-not-contains.branch [
-      then-not-contains+in_ok-checked_sub+in_ok-settle w ↦ subst (λ x. DoneAt k c.loop-u.self x u) (sym w.self-is) (record { on = w.settle.ensures.on; settled = w.settle.ensures.after; there = w.in_ok-settle.ensures.reached })
+      | then-not-contains+in_ok-checked_sub+in_ok-settle w ↦ subst (λ x. DoneAt k c.loop-u.self x u) (sym w.self-is) (record { on = w.settle.ensures.on; settled = w.settle.ensures.after; there = w.in_ok-settle.ensures.reached })
       | else-not-contains w ↦ subst (λ x. DoneAt k c.loop-u.self x u) (sym w.self-is) (record { on = gone_same c.loop-u.self; settled = c.loop-u.invariant.settled; there = c.contains.ensures.0 w.if-not-contains.false })
     ] in
     let walk_on = gone_on c.args.self.now c.loop-u.self walk c.loop-u.invariant.on next.on in

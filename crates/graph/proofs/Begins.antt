@@ -1,32 +1,41 @@
 -- The join over the paths from a node, made by one next node after another, and what a turn of that loop keeps. Assumes nothing.
-use Rattle.std.proofs.Common.{◌≡◌, ℕ, ◌+◌, ◌-◌, ◌*◌, ◌<◌, ◌≤◌, List, [], ◌∷◌, length, get_or, set, sym, refl, subst, inl, ⊎_elim, arith}
+use Rattle.std.proofs.Common.{◌≡◌, ℕ, ◌+◌, ◌-◌, ◌*◌, ◌<◌, ◌≤◌, List, [], ◌∷◌, length, get_or, set, sym, refl, subst, ◌∙◌, ⊎_elim, arith}
 use Rattle.std.proofs.lemmas.List.{get_or-set_same, get_or-set_other}
 use Rattle.std.proofs.lemmas.Bool.{cases_eq}
-use Rattle.length.specs.Kind.{Kind, Laws, largest_size}
+use Rattle.length.specs.Kind.{Kind, Laws, largest_size, sum_limit}
 use Rattle.length.proofs.Algebra.{plus_keeps_left}
 use Rattle.length.proofs.Joins.{join_same, join_shift}
 use Rattle.placement.specs.Walks.{Path}
 use Rattle.placement.specs.Downward.{total}
 use Rattle.graph.specs.declared.node_set.NodeSet.{NodeSet}
 use Rattle.graph.specs.declared.graph.Graph.{Graph}
-use Rattle.graph.specs.Nodes.{Has}
+use Rattle.graph.specs.declared.paths.Walk.{Walk}
+use Rattle.graph.specs.Nodes.{Has, most_nodes}
 use Rattle.graph.specs.Members.{Inserted, Taken}
 use Rattle.graph.specs.Steps.{Step}
-use Rattle.graph.specs.Heaviest.{Light}
-use Rattle.graph.specs.Settling.{Reach, Weighs, Known, Settled}
-use Rattle.graph.proofs.Weights.{weighs_join, weighs_plus}
+use Rattle.graph.specs.Heaviest.{dealt, Light}
+use Rattle.graph.specs.Settling.{Reach, Weighs, Known, Settled, SettledIn, GoneOn}
+use Rattle.graph.proofs.Weights.{weighs_join, weighs_plus, plus_answers}
 
 -- the paths from v whose first step is not left to be taken
 abbrev pub Begun : Graph → ℕ → NodeSet → List ℕ → Type 0
 Begun g v left [] = Unit {0}
 Begun g v left (u ∷ us) = Step g v u × (Has left u → ⊥) × Path (Step g) u us
 
--- the search at v, where `start` was done before, `left` is still to be taken, and `most` is the join so far
-pub record Underway {V : Type 0} (k : Kind V) (g : Graph) (weight : ℕ → V) (v : ℕ) (start left done : NodeSet) (out : ℕ → V) (most : V) : Type 0 where
-  pub begun : Known k g weight v (Begun g v left) most
-  pub settled : Settled k g weight done out
-  pub grown : (u : ℕ) → Has start u → Has done u
-  pub steps : (u : ℕ) → Has left u → Step g v u
+-- the walk w gone on to t at v, where `left` is still to be taken, and `most` is the join so far
+pub record Underway {V : Type 0} (k : Kind V) (w t : Walk V) (v : ℕ) (left : NodeSet) (most : V) : Type 0 where
+  pub on : GoneOn w t
+  pub begun : Known k w.graph.now (dealt k.zero w.weights.now) v (Begun w.graph.now v left) most
+  pub settled : SettledIn k t
+  pub steps : (u : ℕ) → Has left u → Step w.graph.now v u
+
+pub gone_on : {V : Type 0} (w t u : Walk V) → GoneOn w t → GoneOn t u → GoneOn w u
+gone_on w t u first second = record {
+  graph = second.graph ∙ first.graph;
+  weights = second.weights ∙ first.weights;
+  place = second.place ∙ first.place;
+  grown = λ x h. second.grown x (first.grown x h);
+}
 
 -- what is taken is a node
 pub taken_inside : (g : Graph) (v u : ℕ) {left rest : NodeSet} → ((x : ℕ) → Has left x → Step g v x) → Taken left rest u → u < g.nodes
@@ -43,21 +52,6 @@ reach_next g v u n step reach = (some, λ us path. shorter us (reach (u ∷ us) 
     shorter us h = omega arith
 
 module _ {V : Type 0} {k : Kind V} (laws : Laws k) (g : Graph) (weight : ℕ → V) where
-  pub begun_none : (v : ℕ) (left : NodeSet) → ((u : ℕ) → Step g v u → Has left u) → Known k g weight v (Begun g v left) k.zero
-  begun_none v left all = record {
-    joined = record { above = above; least = λ b every. laws.zero_least b };
-    ends = (0, alone);
-    light = λ small n reach. inl refl;
-  }
-    where
-      above : (us : List ℕ) → Begun g v left us → k.at_most (total k weight us) k.zero
-      above [] h = laws.at_most_same _
-      above (u ∷ us) h = absurd (h.1 (all u h.0))
-
-      alone : (us : List ℕ) → Begun g v left us → length us ≤ 0
-      alone [] h = omega arith
-      alone (u ∷ us) h = absurd (h.1 (all u h.0))
-
   pub begun_all : (v : ℕ) (left : NodeSet) (x : V) → ((u : ℕ) → Has left u → ⊥) → Known k g weight v (Begun g v left) x → Known k g weight v (Path (Step g) v) x
   begun_all v left x nothing so = record {
     joined = join_same into from so.joined;
@@ -114,17 +108,46 @@ module _ {V : Type 0} {k : Kind V} (laws : Laws k) (g : Graph) (weight : ℕ →
     begun_more : Known k g weight v (Begun g v rest) (k.join x (k.plus y (weight u)))
     begun_more = record { joined = record { above = above; least = least }; ends = (so.ends.0 + known.ends.0 + 1, ends); light = light }
 
-  pub underway_more : (v u : ℕ) (start left rest done all : NodeSet) (out now : ℕ → V) (x : V) → Underway k g weight v start left done out x → Taken left rest u → ((w : ℕ) → Has done w → Has all w) → Settled k g weight all now → Has all u → Underway k g weight v start rest all now (k.join x (k.plus (now u) (weight u)))
-  underway_more v u start left rest done all out now x so taken grows settled reached = record {
-    begun = begun_more v u left rest x (now u) so.begun taken (so.steps u taken.member) (settled u reached);
-    settled = settled;
-    grown = λ w h. grows w (so.grown w h);
-    steps = λ w h. so.steps w (taken.only w h).0;
-  }
-
   pub settled_more : (done all : NodeSet) (out : List V) (v : ℕ) (x : V) → v < length out → Inserted done all v → Known k g weight v (Path (Step g) v) x → Settled k g weight done (λ u. get_or out u k.zero) → Settled k g weight all (λ u. get_or (set out v x) u k.zero)
   settled_more done all out v x inside inserted known before u has = ⊎_elim
       (λ (e : u ≡ v). subst (λ (c : ℕ). Known k g weight c (Path (Step g) c) (get_or (set out v x) c k.zero)) (sym e) (subst (λ (y : V). Known k g weight v (Path (Step g) v) y) (sym (get_or-set_same out v x k.zero inside)) known))
       (λ (ne : u ≡ v → ⊥). subst (λ (y : V). Known k g weight u (Path (Step g) u) y) (sym (get_or-set_other out v u x k.zero ne))
       (before u (⊎_elim (λ (old : Has done u). old) (λ (e : u ≡ v). absurd (ne e)) (inserted.only u has))))
       (cases_eq u v)
+
+-- what a walk has settled is settled in the one that it has gone on from
+pub settled_on : {V : Type 0} {k : Kind V} (w t : Walk V) → GoneOn w t → SettledIn k t → Settled k w.graph.now (dealt k.zero w.weights.now) t.done (λ u. get_or t.out.now u k.zero)
+settled_on w t on settled = rw (on.graph, on.weights) at settled
+
+-- the walk w gone on to t, in which u is done
+pub record DoneAt {V : Type 0} (k : Kind V) (w t : Walk V) (u : ℕ) : Type 0 where
+  pub on : GoneOn w t
+  pub settled : SettledIn k t
+  pub there : Has t.done u
+
+pub gone_same : {V : Type 0} (w : Walk V) → GoneOn w w
+gone_same w = record { graph = refl; weights = refl; place = refl; grown = λ u h. h }
+
+-- a turn of the loop: the node u is taken, and the walk has gone on to t, in which u is done
+module _ {V : Type 0} {k : Kind V} (laws : Laws k) (w before t : Walk V) (v u : ℕ) (left rest : NodeSet) (most : V) (way : Underway k w before v left most) (taken : Taken left rest u) (next : DoneAt k before t u) where
+  all_on : GoneOn w t
+  all_on = gone_on w before t way.on next.on
+
+  known : Known k w.graph.now (dealt k.zero w.weights.now) u (Path (Step w.graph.now) u) (get_or t.out.now u k.zero)
+  known = settled_on w t all_on next.settled u next.there
+
+  step : Step w.graph.now v u
+  step = way.steps u taken.member
+
+  pub underway_more : Underway k w t v rest (k.join most (k.plus (get_or t.out.now u k.zero) (dealt k.zero t.weights.now u)))
+  underway_more = record {
+    on = all_on;
+    begun = rw all_on.weights (begun_more laws w.graph.now (dealt k.zero w.weights.now) v u left rest most (get_or t.out.now u k.zero) way.begun taken step known);
+    settled = next.settled;
+    steps = λ x h. way.steps x (taken.only x h).0;
+  }
+
+  pub sum_fits : (n : ℕ) → n ≤ most_nodes → Light k w.graph.now (dealt k.zero w.weights.now) → Reach w.graph.now v n → k.measure (get_or t.out.now u k.zero) + k.measure (dealt k.zero t.weights.now u) ≤ sum_limit
+  sum_fits n few small reach =
+      rw all_on.weights
+      (plus_answers laws (n - 1) (get_or t.out.now u k.zero) (dealt k.zero w.weights.now u) (omega arith) (known.light small (n - 1) (reach_next w.graph.now v u n step reach).1) (small u (w.graph.now.within v u step.1)))

@@ -2,11 +2,8 @@
 #![tactic(auto)]
 
 mod graph;
-mod members;
 mod node_set;
 mod paths;
-mod steps;
 
 pub use graph::Graph;
-pub use members::MOST_NODES;
-pub use node_set::NodeSet;
+pub use node_set::{MOST_NODES, NodeSet};

@@ -1,8 +1,7 @@
 //! The heaviest paths of a graph.
-ghost use Rattle.std.specs.Prelude.{◌≡◌, ℕ, ◌<◌, ◌≤◌, true, false, length, ◌≢◌, slice_index_or};
+ghost use Rattle.std.specs.Prelude.{◌≡◌, ℕ, ◌<◌, ◌≤◌, length, ◌≢◌, None, IfSome, IsSomeAnd, slice_index_or};
 ghost use Rattle.graph.specs.Nodes.{Has, most_nodes};
 ghost use Rattle.graph.specs.Heaviest.{dealt, Heaviest, Short, Light, Bounded};
-ghost use Rattle.graph.specs.Settling.{Reach, Settled};
 
 use crate::graph::Graph;
 use crate::node_set::NodeSet;
@@ -11,68 +10,80 @@ use length::Length;
 impl Graph {
     /// Writes to `out`, for each node, the join of what the paths from it weigh, the node itself not counted.
     ///
-    /// Where there are fewer weights than nodes, they are dealt out again from the first on. The answer is false, and `out`
-    /// as it was, where there is no weight, or `out` has not as many entries as there are nodes. It is also false where a
-    /// path has more steps than there are nodes, or a sum passes the limit; `out` then has no meaning.
-    pub fn heaviest<T: Length>(&self, weights: &[T], out: &mut [T]) -> bool
-        ensures found { result ≡ true → Heaviest T.Length.kind self.now (dealt T.kind.zero weights.now) (λ v. slice_index_or out.new v T.kind.zero) }
-        ensures short { result ≡ true → Short self.now }
-        ensures finishes { 0 < length weights.now → length out.old ≡ self.now.nodes → Short self.now → Light T.Length.kind self.now (dealt T.kind.zero weights.now) → (result ≡ true) × Bounded T.Length.kind self.now (λ v. slice_index_or out.new v T.kind.zero) }
-        ensures refused { (0 < length weights.now → length out.old ≢ self.now.nodes) → (result ≡ false) × (out.new ≡ out.old) }
+    /// Where there are fewer weights than nodes, they are dealt out again from the first on. `None`, with `out` as it was,
+    /// where there is no weight, or `out` has not as many entries as there are nodes. Also `None` where a path has more
+    /// steps than there are nodes, or a sum passes the limit; `out` then has no meaning.
+    pub fn heaviest<T: Length>(&self, weights: &[T], out: &mut [T]) -> Option<()>
+        ensures found { IfSome result (λ _. Heaviest T.Length.kind self.now (dealt T.kind.zero weights.now) (λ v. slice_index_or out.new v T.kind.zero)) }
+        ensures short { IfSome result (λ _. Short self.now) }
+        ensures finishes { 0 < length weights.now → length out.old ≡ self.now.nodes → Short self.now → Light T.Length.kind self.now (dealt T.kind.zero weights.now) → IsSomeAnd result (λ _. Bounded T.Length.kind self.now (λ v. slice_index_or out.new v T.kind.zero)) }
+        ensures refused { (0 < length weights.now → length out.old ≢ self.now.nodes) → (result ≡ None) × (out.new ≡ out.old) }
     {
-        if weights.len() == 0 || out.len() != self.nodes {
-            return false;
+        if weights.is_empty() || out.len() != self.nodes {
+            return None;
         }
-        let mut done = NodeSet::empty();
+        let mut walk = Walk {
+            graph: self,
+            weights,
+            out,
+            done: NodeSet::empty(),
+        };
+        // the nodes are the numbers below their count
         for v in 0..self.nodes {
-            if !settle(self, weights, out, &mut done, v, self.nodes) {
-                return false;
+            if !walk.done.contains(v) {
+                walk.settle(v, self.nodes)?;
             }
         }
-        true
+        Some(())
     }
 }
 
-/// Writes to `out` the join at `v`, and before that at each node on a path from it, none of them twice.
-///
-/// `fuel` is how many steps the paths from `v` may have.
-fn settle<T: Length>(
-    graph: &Graph,
-    weights: &[T],
-    out: &mut [T],
-    done: &mut NodeSet,
-    v: usize,
-    fuel: usize,
-) -> bool
-    requires weighted { 0 < length weights.now }
-    requires long { length out.old ≡ graph.now.nodes }
-    requires inside { v < graph.now.nodes }
-    requires few { fuel ≤ most_nodes }
-    requires before { Settled T.Length.kind graph.now (dealt T.kind.zero weights.now) done.old (λ u. slice_index_or out.old u T.kind.zero) }
-    ensures grows { (u : ℕ) → Has done.old u → Has done.new u }
-    ensures after { Settled T.Length.kind graph.now (dealt T.kind.zero weights.now) done.new (λ u. slice_index_or out.new u T.kind.zero) }
-    ensures reached { result ≡ true → Has done.new v }
-    ensures finishes { Light T.Length.kind graph.now (dealt T.kind.zero weights.now) → Reach graph.now v fuel → result ≡ true }
-{
-    if done.contains(v) {
-        return true;
+/// A search along the steps of a graph: at the nodes that are done, `out` has the join.
+#[derive(Drop)]
+struct Walk<'a, T> {
+    graph: &'a Graph,
+    weights: &'a [T],
+    out: &'a mut [T],
+    done: NodeSet,
+    ghost weighted: { 0 < length weights.now },
+    ghost long: { length out.now ≡ graph.now.nodes },
+}
+
+impl<T: Length> Walk<'_, T> {
+    ghost use Rattle.std.specs.Prelude.{◌≡◌, ◌<◌, ◌≤◌, IfSome, IsSome};
+    ghost use Rattle.graph.specs.Nodes.{Has, most_nodes};
+    ghost use Rattle.graph.specs.Heaviest.{dealt, Light};
+    ghost use Rattle.graph.specs.Settling.{Reach, SettledIn, GoneOn};
+
+    /// What the node `u` weighs. (Nodes are asked for in any order, so the weights are dealt out by the number.)
+    fn weight(&self, u: usize) -> T
+        ensures { result ≡ dealt T.kind.zero self.now.weights.now u }
+    {
+        self.weights[u % self.weights.len()]
     }
-    let mut left = graph.next[v];
-    let mut most = T::zero();
-    while let Some(u) = left.take_first() {
-        if fuel == 0 {
-            return false;
+
+    /// Writes to `out` the join at `v`, and before that at each node on a path from it, except for those that are done.
+    ///
+    /// `fuel` is how many steps the paths from `v` may have. `None` only where one has more, or a sum passes the limit.
+    fn settle(&mut self, v: usize, fuel: usize) -> Option<()>
+        requires inside { v < self.old.graph.now.nodes }
+        requires few { fuel ≤ most_nodes }
+        requires before { SettledIn T.Length.kind self.old }
+        ensures on { GoneOn self.old self.new }
+        ensures after { SettledIn T.Length.kind self.new }
+        ensures reached { IfSome result (λ _. Has self.new.done v) }
+        ensures finishes { Light T.Length.kind self.old.graph.now (dealt T.kind.zero self.old.weights.now) → Reach self.old.graph.now v fuel → IsSome result }
+    {
+        let mut left = self.graph.next[v];
+        let mut most = T::zero();
+        while let Some(u) = left.take_first() {
+            if !self.done.contains(u) {
+                self.settle(u, fuel.checked_sub(1)?)?;
+            }
+            most = most.join(self.out[u].plus(self.weight(u))?);
         }
-        if !settle(graph, weights, out, done, u, fuel - 1) {
-            return false;
-        }
-        let weight = weights[u % weights.len()];
-        let Some(through) = out[u].plus(weight) else {
-            return false;
-        };
-        most = most.join(through);
+        self.out[v] = most;
+        self.done.insert(v);
+        Some(())
     }
-    out[v] = most;
-    done.insert(v);
-    true
 }

@@ -15,8 +15,8 @@ fn farthest_end<T: Length>(starts: &[T], sizes: &[T]) -> Option<T>
     ensures { MatchOption result ((u : ℕ) × (u < length starts.now) × (sum_limit < T.kind.measure (slice_index_or starts.now u T.kind.zero) + T.kind.measure (dealt T.kind.zero sizes.now u))) (λ t. IsJoin T.Length.kind (λ u. u < length starts.now) (λ u. T.kind.plus (slice_index_or starts.now u T.kind.zero) (dealt T.kind.zero sizes.now u)) t) }
 {
     let mut end = T::zero();
-    for u in 0..starts.len() {
-        end = end.join(starts[u].plus(sizes[u % sizes.len()])?);
+    for (start, size) in starts.iter().zip(sizes.iter().cycle()) {
+        end = end.join(start.plus(*size)?);
     }
     Some(end)
 }
@@ -29,8 +29,6 @@ pub(crate) fn reach<T: Length>(graph: &Graph, weights: &[T], values: &mut [T]) -
     ensures found { IfSome result (λ d. Reached T.Length.kind graph.now (dealt T.kind.zero weights.now) (λ u. get_or values.new u T.kind.zero) d) }
     ensures finishes { Short graph.now → Light T.Length.kind graph.now (dealt T.kind.zero weights.now) → IsSomeAnd result (λ _. Bounded T.Length.kind graph.now (λ u. get_or values.new u T.kind.zero)) }
 {
-    if !graph.heaviest(weights, values) {
-        return None;
-    }
+    graph.heaviest(weights, values)?;
     farthest_end(values, weights)
 }

@@ -1,9 +1,16 @@
-use Rattle.std.proofs.Common.{ℕ, ◌<◌, get_or}
+use Rattle.std.proofs.Common.{◌≡◌, ℕ, ◌<◌, length, get_or, drop}
 use Rattle.length.specs.Join.{IsJoin}
 use Rattle.graph.specs.Heaviest.{dealt}
+use Rattle.placing.proofs.Dealt.{Left}
 use Rattle.placing.proofs.reach.farthest_end.Given as goal
 
-abbrev pub invariant-loop-u : goal.invariant-loop-u
-invariant-loop-u g l =
+abbrev pub invariant-loop-start : goal.invariant-loop-start
+invariant-loop-start g l =
     let k = g.T.Length.kind in
-    IsJoin k (λ (u : ℕ). u < l.u) (λ (u : ℕ). k.plus (get_or l.starts u k.zero) (dealt k.zero l.sizes u)) l.end
+    let u = length l.yielded in
+    record {
+      starts : l.start-iterator.a.rest.now ≡ drop u l.starts;
+      round : l.start-iterator.b.orig.rest.now ≡ l.sizes;
+      sizes : Left l.sizes u l.start-iterator.b.iter.rest.now;
+      joined : IsJoin k (λ (v : ℕ). v < u) (λ (v : ℕ). k.plus (get_or l.starts v k.zero) (dealt k.zero l.sizes v)) l.end;
+    }

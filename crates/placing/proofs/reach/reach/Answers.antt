@@ -6,16 +6,6 @@ use Rattle.placing.proofs.Limits.{path_and_node_within}
 use Rattle.placing.proofs.Present.{present}
 use Rattle.placing.proofs.reach.reach.Goals as goal
 
-pub returns-then-not-heaviest : goal.returns-then-not-heaviest
-returns-then-not-heaviest g c = record {
-  found = tt;
-  finishes = λ short light.
-      let yes : c.heaviest.result ≡ true = (c.heaviest.ensures.finishes c.requires.weighted c.requires.long short light).0 in
-      let no : c.heaviest.result ≡ false = c.if-not-heaviest.true in
-      let z : ◌≡◌ {A = ℕ} 0 1 = cc in
-      omega arith;
-}
-
 pub returns : goal.returns
 returns g c =
     let V = g.row.T.Denot in
@@ -28,10 +18,10 @@ returns g c =
       found =
           cases_map c.farthest_end.result
           (λ _. tt)
-          (λ (d : V) so. record { heaviest = c.heaviest.ensures.found c.if-not-heaviest.false; end_is = join_same (λ u low. omega arith) (λ u low. omega arith) so })
+          (λ (d : V) so. record { heaviest = c.in_ok-heaviest.ensures.found; end_is = join_same (λ u low. omega arith) (λ u low. omega arith) so })
           c.farthest_end.ensures;
       finishes = λ short light.
-          let small = (c.heaviest.ensures.finishes c.requires.weighted c.requires.long short light).1 in
+          let small = c.in_ok-heaviest.ensures.finishes c.requires.weighted c.requires.long short light in
           present c.farthest_end.result
           (λ over. path_and_node_within k graph weight value light small over.0 (let low = over.1 in omega arith) over.2)
           (λ (d : V) so. small)

@@ -1,7 +1,7 @@
 -- What the laws of an order give of left and above by themselves: neither holds of a cell and itself, neither turns
 -- round, the two exclude each other, and both are decided.
 use Rattle.std.specs.Prelude.{◌≡◌, ℕ, ◌<◌, refl}
-use Rattle.std.proofs.Common.{sym, arith}
+use Rattle.std.proofs.Common.{sym}
 use Rattle.std.proofs.Math.Decide.{ℕ_discrete, dec_lt}
 use Rattle.book.specs.declared.relation.Relation.TheVariants.{Left, Above}
 use Rattle.book.specs.Order.{Order, Apart, LeftOf, AboveOf, Lie, left, right, above, below, Laws}
@@ -19,8 +19,7 @@ pub left_not_above : {o : Order} {a b : ℕ} → LeftOf o a b → AboveOf o a b 
 left_not_above {o} {a} {b} h k =
     let l : o.rel a b ≡ Left = h.told in
     let t : o.rel a b ≡ Above = k.told in
-    let z : ◌≡◌ {A = ℕ} 0 1 = cc in
-    omega arith
+    cc
 
 module _ {o : Order} (laws : Laws o) where
   pub left_turns_not : {a b : ℕ} → LeftOf o a b → LeftOf o b a → ⊥
@@ -28,24 +27,21 @@ module _ {o : Order} (laws : Laws o) where
       let l : o.rel a b ≡ Left = h.told in
       let t : o.rel b a ≡ Left = k.told in
       let c = laws.converse a b h.apart in
-      let z : ◌≡◌ {A = ℕ} 0 1 = cc in
-      omega arith
+      cc
 
   pub above_turns_not : {a b : ℕ} → AboveOf o a b → AboveOf o b a → ⊥
   above_turns_not {a} {b} h k =
       let l : o.rel a b ≡ Above = h.told in
       let t : o.rel b a ≡ Above = k.told in
       let c = laws.converse a b h.apart in
-      let z : ◌≡◌ {A = ℕ} 0 1 = cc in
-      omega arith
+      cc
 
   pub left_not_below : {a b : ℕ} → LeftOf o a b → AboveOf o b a → ⊥
   left_not_below {a} {b} h k =
       let l : o.rel a b ≡ Left = h.told in
       let t : o.rel b a ≡ Above = k.told in
       let c = laws.converse a b h.apart in
-      let z : ◌≡◌ {A = ℕ} 0 1 = cc in
-      omega arith
+      cc
 
   pub left_trans : {a b c : ℕ} → LeftOf o a b → LeftOf o b c → LeftOf o a c
   left_trans {a} {b} {c} = laws.left_transitive a b c

@@ -1,5 +1,5 @@
 //! The interface of every book.
-ghost use Rattle.std.specs.Prelude.{◌≡◌, ℕ, Ok, MatchResult};
+ghost use Rattle.std.specs.Prelude.{◌≡◌, Ok, MatchResult};
 ghost use Rattle.book.specs.Order.{Order, Laws, SameOrder, swapped};
 ghost use Rattle.book.specs.Calls.{asked, of_cell, of_cells};
 ghost use Rattle.book.specs.Counts.{Countable, BadCount};

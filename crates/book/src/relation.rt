@@ -15,11 +15,11 @@ pub enum Relation {
 
 impl fmt::Display for Relation {
     fn fmt<W: fmt::Write>(&self, f: &mut fmt::Formatter<W>) -> fmt::Result {
-        match self {
-            Relation::Left => write!(f, "left of"),
-            Relation::Right => write!(f, "right of"),
-            Relation::Above => write!(f, "above"),
-            Relation::Below => write!(f, "below"),
-        }
+        f.write_str(match self {
+            Relation::Left => "left of",
+            Relation::Right => "right of",
+            Relation::Above => "above",
+            Relation::Below => "below",
+        })
     }
 }

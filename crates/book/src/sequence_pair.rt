@@ -13,6 +13,8 @@ use crate::relation::MOST_CELLS;
 #[derive(Clone, Copy)]
 pub struct SequencePair {
     pub(crate) count: usize,
+    // Plain arrays with one count, since a book is a `Copy` value, as an `ArrayVec` is not; and two tables, not one of
+    // pairs, since each row is read, and refused, by itself.
     pub(crate) first: [u8; MOST_CELLS],
     pub(crate) second: [u8; MOST_CELLS],
     ghost some: { 1 ≤ count },

@@ -1,5 +1,5 @@
 //! Reading a slicing expression: the parts that wait, as the two rows of the sequence-pair that they amount to.
-ghost use Rattle.std.specs.Prelude.{◌≡◌, ◌+◌, ◌*◌, ◌<◌, ◌≤◌, List, [], ◌∷◌, length, MatchOption, MatchResult};
+ghost use Rattle.std.specs.Prelude.{◌≡◌, ◌+◌, ◌*◌, ◌≤◌, List, [], ◌∷◌, length, MatchOption, MatchResult};
 ghost use Rattle.book.specs.Order.{most_cells};
 ghost use Rattle.book.specs.Slicing.{Part, cell, beside, stacked, Read};
 ghost use Rattle.book.specs.Waiting.{Holds, Roomy, Stackable, Once, Unread, Whole, BreaksAt};

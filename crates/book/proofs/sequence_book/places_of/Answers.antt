@@ -1,7 +1,7 @@
-use Rattle.std.proofs.Common.{inl, inr, refl, arith}
+use Rattle.std.proofs.Common.{inl, inr, refl}
 use Rattle.std.proofs.lemmas.Bool.Decides.{not_from_Decides}
 use Rattle.book.proofs.Standing.{found_stands}
-use Rattle.book.proofs.Tables.{table_none, table_more, first_break, table_whole}
+use Rattle.book.proofs.Tables.{table_more, first_break}
 use Rattle.book.proofs.sequence_book.places_of.Goals as goal
 use Rattle.book.proofs.sequence_book.places_of.Goals.{then-cell-n-via-then-cell-n, then-cell-n-via-else-cell-n+then-contains}
 

@@ -21,8 +21,8 @@ invariant_of-self c =
       second_row = traded_places s.second second a b q.0 q.1 q.2 s.count ok.a_in ok.b_in c.swap-2.ensures.len s.second_row;
     }
 
-pub returns : goal.returns
-returns c =
+pub returns-clause-meaning : goal.returns-clause-meaning
+returns-clause-meaning c =
     let s = c.args.self.now in
     let a = c.args.a in
     let b = c.args.b in
@@ -30,4 +30,4 @@ returns c =
     let q = c.swap-2.ensures.by_index in
     let first = traded s.first c.swap.new.self a b p.0 p.1 p.2 in
     let second = traded s.second c.swap-2.new.self a b q.0 q.1 q.2 in
-    record { answer = c.in_ok-within.ensures; meaning = record { count = refl; each = λ x y _. simp (first x, first y, second x, second y) } }
+    record { count = refl; each = λ x y _. simp (first x, first y, second x, second y) }

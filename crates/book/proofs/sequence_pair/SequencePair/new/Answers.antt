@@ -30,13 +30,11 @@ returns-in_err-second c =
     exit_told _ (NoRows c.args.n c.args.first.now c.args.second.now) c.from_residual-in_err-second.result _ _ c.from_residual-in_err-second.ensures.1 (ap sheet.Field f.2)
     (second_breaks c.in_ok-countable.ensures first_row c.if-second-n.false f.1)
 
-pub invariant_of-result : goal.invariant_of-result
-invariant_of-result c = record {
-  some = c.in_ok-countable.ensures.0;
-  few = c.in_ok-countable.ensures.1;
-  first_row = inverse_places c.args.n c.args.first.now c.in_ok-first.first c.if-first-n.false c.in_ok-first.ensures;
-  second_row = inverse_places c.args.n c.args.second.now c.in_ok-second.second c.if-second-n.false c.in_ok-second.ensures;
-}
+pub invariant_of-result-clause-first_row : goal.invariant_of-result-clause-first_row
+invariant_of-result-clause-first_row c = inverse_places c.args.n c.args.first.now c.in_ok-first.first c.if-first-n.false c.in_ok-first.ensures
+
+pub invariant_of-result-clause-second_row : goal.invariant_of-result-clause-second_row
+invariant_of-result-clause-second_row c = inverse_places c.args.n c.args.second.now c.in_ok-second.second c.if-second-n.false c.in_ok-second.ensures
 
 pub returns : goal.returns
 returns c =

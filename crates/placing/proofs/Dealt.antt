@@ -1,5 +1,5 @@
 -- Weights that are dealt out: those at hand, and the same again.
-use Rattle.std.proofs.Common.{◌≡◌, ℕ, ◌+◌, ◌%◌, ◌<◌, ◌≤◌, ◌⊎◌, List, [], ◌∷◌, length, get_or, drop, Option, Some, None, MatchOption, Bor, Iter, sym, refl, ap, ◌∙◌, subst, add-one, inl, inr, ⊎_elim, mod-eq_of_lt, mod-lt, arith}
+use Rattle.std.proofs.Common.{◌≡◌, ℕ, ◌+◌, ◌%◌, ◌<◌, ◌≤◌, ◌⊎◌, List, [], ◌∷◌, length, get_or, drop, Option, Some, None, MatchOption, Bor, Iter, sym, ap, ◌∙◌, subst, add-one, inl, inr, ⊎_elim, mod-eq_of_lt, mod-lt, arith}
 use Rattle.std.proofs.Math.Nat.{mod_self, suc-mod, add-mod_left}
 use Rattle.std.proofs.lemmas.Bool.{cases_lt}
 use Rattle.std.proofs.lemmas.List.{drop_more, drop_all, length-drop}

@@ -1,4 +1,4 @@
-use Rattle.std.proofs.Common.{◌≡◌, ℕ, true, false, length, get_or, arith}
+use Rattle.std.proofs.Common.{◌≡◌, ℕ, length, get_or, arith}
 use Rattle.length.proofs.Answered.{cases_map}
 use Rattle.length.proofs.Joins.{join_same}
 use Rattle.graph.specs.Heaviest.{dealt}

@@ -1,7 +1,6 @@
 //! The placing of a sheet.
 ghost use Rattle.group.specs.Group.{sheet_of};
 ghost use Rattle.placing.specs.Placing.{Placing, five};
-ghost use Rattle.sheet.specs.Sheets.{Sound};
 
 use crate::sheet::Sheet;
 use book::Book;
@@ -20,7 +19,7 @@ impl<B: Book> Sheet<B> {
         x: &mut [T],
         y: &mut [T],
     ) -> Result<Extent<T>, SheetFault>
-        ensures { Sound (B.Book.order self.now.book) self.now.group → Placing T.Length.kind (sheet_of (B.Book.order self.now.book) self.now.group) (five widths.now heights.now work.old x.old y.old) (five widths.now heights.now work.new x.new y.new) result }
+        ensures { Placing T.Length.kind (sheet_of (B.Book.order self.now.book) self.now.group) (five widths.now heights.now work.old x.old y.old) (five widths.now heights.now work.new x.new y.new) result }
     {
         placing::place(&self.book, &self.group, widths, heights, work, x, y)
     }

@@ -16,7 +16,7 @@ returns-in-Ok g c =
         x_length = omega (arith, ap length x_is, c.place.auto.x, ap length c.deref_mut-2.ensures.value, c.in_ok-x.ensures, c.count-n.ensures);
         y_length = omega (arith, ap length y_is, c.place.auto.y, ap length c.deref_mut-3.ensures.value, c.in_ok-y.ensures, c.count-n.ensures);
       };
-      anew = λ s.
+      anew =
           anew_placed g.T.Length.kind m c.args.widths.now c.args.heights.now c.deref_mut.result.now c.deref_mut-2.result.now c.deref_mut-3.result.now c.place.new.work c.place.new.x c.place.new.y
           (omega (arith, ap length c.deref_mut.ensures.value, c.in_ok-work.ensures, c.count-n.ensures))
           (omega (arith, ap length c.deref_mut-2.ensures.value, c.in_ok-x.ensures, c.count-n.ensures))
@@ -25,7 +25,7 @@ returns-in-Ok g c =
           work_is
           x_is
           y_is
-          (c.in-Ok.ensures s);
+          c.in-Ok.ensures;
     }
 
 pub returns-in-Err : goal.returns-in-Err
@@ -33,10 +33,10 @@ returns-in-Err g c =
     let m = sheet_of (g.B.Book.order c.args.self.now.book) c.args.self.now.group in
     record {
       filled = tt;
-      anew = λ s.
+      anew =
           anew_refused g.T.Length.kind m c.args.widths.now c.args.heights.now c.deref_mut.result.now c.deref_mut-2.result.now c.deref_mut-3.result.now c.place.new.work c.place.new.x c.place.new.y
           (omega (arith, ap length c.deref_mut.ensures.value, c.in_ok-work.ensures, c.count-n.ensures))
           (omega (arith, ap length c.deref_mut-2.ensures.value, c.in_ok-x.ensures, c.count-n.ensures))
           (omega (arith, ap length c.deref_mut-3.ensures.value, c.in_ok-y.ensures, c.count-n.ensures))
-          c.in-Err.fault (c.in-Err.ensures s);
+          c.in-Err.fault c.in-Err.ensures;
     }

@@ -11,7 +11,7 @@ use Rattle.group.specs.Edits.{Mates, freed, names, release_check}
 use Rattle.placing.proofs.LawfulSheet.{lawful_sheet}
 use Rattle.sheet.specs.Sheets.{SameSheet, Sound}
 use Rattle.sheet.specs.Edits.{release, after, unfit, Outcome}
-use Rattle.sheet.proofs.Same.{order_refl, same_sym, clean_back}
+use Rattle.sheet.proofs.Same.{order_refl, clean_there}
 use Rattle.sheet.proofs.Outcomes.{sound_there, of_sheet, done_edit}
 
 -- whoever has a mate after a release had it before
@@ -45,7 +45,7 @@ module _ (o : Order) (g h : Group) (a : ℕ) (sound : Sound o g) (counts : h.cou
   pub released_sound : (r : Result (Unit {0}) SheetFault) → MatchResult r (λ _. (x : ℕ) → mate_of h x ≡ freed a (mate_of g) x) (λ _. (x : ℕ) → mate_of h x ≡ mate_of g x) → Sound o h
   released_sound (Ok _) mates = record {
     counts = counts ∙ sound.counts;
-    clean = clean_back (same_sym (same_freed mates)) (release_clean (sheet_of o g) a sound.clean);
+    clean = clean_there (same_freed mates) (release_clean (sheet_of o g) a sound.clean);
   }
   released_sound (Err f) mates = sound_there (same_mates mates) (counts ∙ sound.counts) sound
 

@@ -47,13 +47,14 @@ impl<B: Book> Sheet<B> {
         ensures filled { IfOk result (λ a. IsFilled (B.Book.order self.old.book).count a) }
         ensures came { IfOk result (λ a. Came T.Length.kind (sheet_of (B.Book.order self.old.book) self.old.group) (sheet_of (B.Book.order self.new.book) self.new.group) step.entry a) }
     {
-        match step {
-            Step::Swap(a, b) => Ok(self.swap(a, b).into()),
-            Step::Pair(a, b) => Ok(self.pair(a, b).into()),
-            Step::Centre(a) => Ok(self.centre(a).into()),
-            Step::Release(a) => Ok(self.release(a).into()),
-            Step::Place(widths, heights) => self.place_anew(heap, widths, heights),
-        }
+        let edited = match step {
+            Step::Swap(a, b) => self.swap(a, b),
+            Step::Pair(a, b) => self.pair(a, b),
+            Step::Centre(a) => self.centre(a),
+            Step::Release(a) => self.release(a),
+            Step::Place(widths, heights) => return self.place_anew(heap, widths, heights),
+        };
+        Ok(edited.into())
     }
 }
 

@@ -48,6 +48,11 @@ pub data Edited (m : Meaning) (e : Edit) (p : Meaning) : Result (Unit {0}) Sheet
 abbrev pub Outcome : Order → Group → Edit → Order → Group → Result (Unit {0}) SheetFault → Type 0
 Outcome o g e q h r = Edited (sheet_of o g) e (sheet_of q h) r
 
+-- The sheet of o and g was given the group j: whatever edit makes this group and passes its checks comes to what is
+-- promised of it.
+abbrev pub Regrouped : Order → Group → Group → Order → Group → Result (Unit {0}) SheetFault → Type 0
+Regrouped o g j q h r = (e : Edit) → checked (sheet_of o g) e ≡ Ok tt → SameSheet (after (sheet_of o g) e) (sheet_of o j) → Outcome o g e q h r
+
 -- the fault tells the first forbidden couple
 pub data TellsFirst (m : Meaning) : SheetFault → Type 0 where
   first : {x y : ℕ} → First m x y → TellsFirst m (Unplaceable x y)

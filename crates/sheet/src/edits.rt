@@ -1,10 +1,9 @@
 //! Edits of a sheet: each is judged by the sheet as it would leave it.
-ghost use Rattle.std.specs.Prelude.{◌≡◌, Ok, MatchResult};
+ghost use Rattle.std.specs.Prelude.{◌≡◌, MatchResult};
 ghost use Rattle.placement.specs.Couples.{Clean};
 ghost use Rattle.placement.specs.Theorems.{CleanExactlyPlaceable};
 ghost use Rattle.group.specs.Group.{sheet_of};
-ghost use Rattle.sheet.specs.Sheets.{SameSheet};
-ghost use Rattle.sheet.specs.Edits.{Edit, Edited, Outcome, TellsFirst, after, checked, swap, pair, centre, release};
+ghost use Rattle.sheet.specs.Edits.{Outcome, Regrouped, TellsFirst, swap, pair, centre, release};
 
 use crate::sheet::Sheet;
 use book::Book;
@@ -26,11 +25,10 @@ fn judge<B: Book>(book: &B, group: &Group) -> Result<(), SheetFault>
 }
 
 impl<B: Book> Sheet<B> {
-    /// Takes `group` in place of the sheet's own, unless the sheet would have no placement then. Whatever edit makes this
-    /// group and passes its checks comes to what is promised of it.
+    /// Takes `group` in place of the sheet's own, unless the sheet would have no placement then.
     fn regroup(&mut self, group: Group) -> Result<(), SheetFault>
         requires { group.count ≡ self.old.group.count }
-        ensures { (e : Edit) → checked (sheet_of (B.Book.order self.old.book) self.old.group) e ≡ Ok tt → SameSheet (after (sheet_of (B.Book.order self.old.book) self.old.group) e) (sheet_of (B.Book.order self.old.book) group) → Outcome (B.Book.order self.old.book) self.old.group e (B.Book.order self.new.book) self.new.group result }
+        ensures { Regrouped (B.Book.order self.old.book) self.old.group group (B.Book.order self.new.book) self.new.group result }
     {
         judge(&self.book, &group)?;
         self.group = group;
@@ -41,7 +39,7 @@ impl<B: Book> Sheet<B> {
     pub fn swap(&mut self, a: usize, b: usize) -> Result<(), SheetFault>
         ensures { Outcome (B.Book.order self.old.book) self.old.group (swap a b) (B.Book.order self.new.book) self.new.group result }
     {
-        // cells that do not lie to each other, as one with itself, are not swapped
+        // what does not lie to each other is not swapped: a number that is no cell, or a cell and itself
         self.book.relation(a, b)?;
         self.book.swap(a, b)?;
         if let Err(fault) = judge(&self.book, &self.group) {

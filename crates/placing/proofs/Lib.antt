@@ -1,4 +1,3 @@
-pub mod LawfulSheet
 pub mod JoinsBelow
 pub mod NodeCodes
 pub mod HeaviestSteps

@@ -2,7 +2,7 @@ use Rattle.std.proofs.Common.{◌≡◌, ℕ, ◌+◌, ◌-◌, ◌<◌, ◌≤�
 use borrow.Rule.Slice.PartMut.{put_mid}
 use Rattle.group.specs.Group.{mate_of, sheet_of}
 use Rattle.placing.specs.Codes.{image_of}
-use Rattle.placing.proofs.LawfulSheet.{mate_inside, lawful_sheet}
+use Rattle.group.proofs.LawfulSheet.{mate_inside, lawful_sheet}
 use Rattle.placing.proofs.LentBack.{front_stays, back_mirrors}
 use Rattle.placing.proofs.WorkList.{given_across, small_befores}
 use Rattle.placing.proofs.across.chains.Goals as goal

@@ -2,7 +2,7 @@ use Rattle.std.proofs.Common.{◌≡◌, ℕ, ◌<◌, get_or, Some, None, sym, 
 use Rattle.std.proofs.lemmas.List.{get_or_read, get_or-set_other}
 use Rattle.group.specs.Group.{mate_of}
 use Rattle.placing.specs.Codes.{mirrored}
-use Rattle.placing.proofs.LawfulSheet.{mate_inside}
+use Rattle.group.proofs.LawfulSheet.{mate_inside}
 use Rattle.placing.proofs.Filling.{filled_more}
 use Rattle.placing.proofs.across.mirror_images.Goals as goal
 use Rattle.placing.proofs.across.mirror_images.Goals.{in-Some, in_default}

@@ -1,7 +1,7 @@
 use Rattle.std.proofs.Common.{ℕ, get_or, sym, ◌∙◌, arith}
 use Rattle.length.proofs.Answered.{cases_map}
 use Rattle.graph.specs.Heaviest.{dealt}
-use Rattle.placing.proofs.LawfulSheet.{lawful_sheet}
+use Rattle.group.proofs.LawfulSheet.{lawful_sheet}
 use Rattle.placing.proofs.Present.{present_both}
 use Rattle.placing.proofs.Dealt.{dealt_first, dealt_again}
 use Rattle.placing.proofs.AcrossGraph.{Twice, sides_short, sides_light}

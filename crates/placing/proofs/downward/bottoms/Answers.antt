@@ -1,6 +1,6 @@
 use Rattle.std.proofs.Common.{◌≡◌, ℕ, ◌<◌, get_or, sym, ◌∙◌, arith}
 use Rattle.graph.specs.Heaviest.{dealt, Bounded}
-use Rattle.placing.proofs.LawfulSheet.{lawful_sheet}
+use Rattle.group.proofs.LawfulSheet.{lawful_sheet}
 use Rattle.placing.proofs.Present.{absent_refutes}
 use Rattle.placing.proofs.Dealt.{dealt_first}
 use Rattle.placing.proofs.DownwardGraph.{falls_short, falls_light, given_down}

@@ -1,6 +1,6 @@
 use Rattle.std.proofs.Common.{arith}
 use Rattle.group.specs.Group.{sheet_of}
-use Rattle.placing.proofs.LawfulSheet.{lawful_sheet}
+use Rattle.group.proofs.LawfulSheet.{lawful_sheet}
 use Rattle.placing.proofs.Adding.{adds_none, adds_more, below_all}
 use Rattle.placing.proofs.DownwardGraph.{FallsBy, falls_of_all}
 use Rattle.placing.proofs.downward.falls.Goals as goal

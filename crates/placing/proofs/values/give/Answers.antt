@@ -1,7 +1,7 @@
 use Rattle.std.proofs.Common.{ℕ, ◌+◌, get_or, sym, subst}
 use Rattle.group.specs.Group.{sheet_of}
 use Rattle.placing.specs.Edges.{RoomForAll}
-use Rattle.placing.proofs.LawfulSheet.{lawful_sheet}
+use Rattle.group.proofs.LawfulSheet.{lawful_sheet}
 use Rattle.placing.proofs.RoomAcross.{room_for_all}
 use Rattle.placing.proofs.values.give.Goals as goal
 

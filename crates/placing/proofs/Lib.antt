@@ -17,4 +17,5 @@ pub mod WorkList
 pub mod RoomAcross
 pub mod LawfulSizes
 pub mod OneFault
-pub mod PlacingOutcomes
+pub mod AnyCell
+pub mod InStep

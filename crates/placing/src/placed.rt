@@ -24,6 +24,7 @@ pub fn place<B: Book, T: Length>(
     ensures lengths { AsLong (lent lists.entry) (handed_back lists.exit) }
     ensures outcome { Clean (meaning_of cells.now) → Placing T.Length.kind (meaning_of cells.now) (lent lists.entry) (handed_back lists.exit) result }
 {
+    // (the parts are passed on one by one: the proof loses sight of what is written through lists that are passed on whole)
     let Lists {
         widths,
         heights,
@@ -31,11 +32,12 @@ pub fn place<B: Book, T: Length>(
         x,
         y,
     } = lists;
-    check_lists(cells.group.count(), widths.len(), heights.len(), work.len(), x.len(), y.len())?;
+    let n = cells.book.count();
+    check_lists(n, widths.len(), heights.len(), work.len(), x.len(), y.len())?;
     check_sizes(cells.group, widths, heights)?;
     rule_places::<T>();
     rule_is_best::<T>();
-    if let Some(extent) = give(cells.book, cells.group, widths, heights, work, x, y) {
+    if let Some(extent) = give(cells, widths, heights, work, x, y) {
         return Ok(extent);
     }
     let (first, second) = cells.first_forbidden().unwrap_or((0, 0));

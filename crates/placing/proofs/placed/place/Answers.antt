@@ -1,8 +1,7 @@
 -- Each refusal by its check; the placement by the theorems about the rule; and a clean sheet comes to no other end.
-use Rattle.std.proofs.Common.{ℕ, sym, refl, ◌∙◌, subst}
+use Rattle.std.proofs.Common.{ℕ, sym, refl, subst}
 use Rattle.book.proofs.Exits.{exit_at}
 use Rattle.group.specs.Arranged.{meaning_of}
-use Rattle.group.specs.Group.{mate_of}
 use Rattle.group.proofs.LawfulSheet.{lawful_arranged}
 use Rattle.placing.specs.Lent.{lent}
 use Rattle.placing.specs.Sizes.{Unlawful, entries}
@@ -15,9 +14,8 @@ returns-in_err-check_lists-clause-outcome g c clean =
     let m = meaning_of c.args.cells.now in
     let l = lent c.args.lists in
     let f = c.in_err-check_lists.field-0.0 in
-    let count = c.count.ensures ∙ c.args.cells.now.counted in
     exit_at (Placing k m l l) c.from_residual.result f c.from_residual.ensures.1
-    (misfitting (subst (λ (n : ℕ). Misfitting n l f) count c.in_err-check_lists.ensures) refl)
+    (misfitting (subst (λ (n : ℕ). Misfitting n l f) c.count-n.ensures c.in_err-check_lists.ensures) refl)
 
 pub returns-in_err-check_sizes-clause-outcome : goal.returns-in_err-check_sizes-clause-outcome
 returns-in_err-check_sizes-clause-outcome g c clean =
@@ -25,9 +23,8 @@ returns-in_err-check_sizes-clause-outcome g c clean =
     let m = meaning_of c.args.cells.now in
     let l = lent c.args.lists in
     let f = c.in_err-check_sizes.field-0.0 in
-    let count = c.count.ensures ∙ c.args.cells.now.counted in
     exit_at (Placing k m l l) c.from_residual-in_err-check_sizes.result f c.from_residual-in_err-check_sizes.ensures.1
-    (unlawful (subst (λ (n : ℕ). Fitting n l) count c.in_ok-check_lists.ensures)
+    (unlawful (subst (λ (n : ℕ). Fitting n l) c.count-n.ensures c.in_ok-check_lists.ensures)
     (subst (λ (n : ℕ). Unlawful k m.mate n (entries k l.widths) (entries k l.heights) f) c.args.cells.now.counted c.in_err-check_sizes.ensures) refl)
 
 pub returns-in-Some-clause-outcome : goal.returns-in-Some-clause-outcome
@@ -35,9 +32,8 @@ returns-in-Some-clause-outcome g c clean =
     let m = meaning_of c.args.cells.now in
     let l = lent c.args.lists in
     let lawful = lawful_arranged c.args.cells.now (g.met.B.Book.lawful c.args.cells.now.book.now) in
-    let count = c.count.ensures ∙ c.args.cells.now.counted in
     let sizes = c.in_ok-check_sizes.ensures m.order (sym c.args.cells.now.counted) in
-    placed (subst (λ (n : ℕ). Fitting n l) count c.in_ok-check_lists.ensures) sizes
+    placed (subst (λ (n : ℕ). Fitting n l) c.count-n.ensures c.in_ok-check_lists.ensures) sizes
     (record {
       given = c.in-Some.ensures;
       placement = c.rule_places.ensures m lawful clean _ _ _ _ _ _ _ _ sizes c.in-Some.ensures;

@@ -8,7 +8,7 @@ use Rattle.placement.specs.Theorems.{CleanExactlyPlaceable}
 use Rattle.group.specs.declared.table.Group.{Group}
 use Rattle.group.specs.Group.{mate_of, sheet_of}
 use Rattle.group.specs.Edits.{Mates, freed, names, release_check}
-use Rattle.placing.proofs.LawfulSheet.{lawful_sheet}
+use Rattle.group.proofs.LawfulSheet.{lawful_sheet}
 use Rattle.sheet.specs.Sheets.{SameSheet, Sound}
 use Rattle.sheet.specs.Edits.{release, after, unfit, Outcome}
 use Rattle.sheet.proofs.Same.{order_refl, clean_there}

@@ -30,10 +30,11 @@ impl<B: Book> Sheet<B> {
         requires { group.count ≡ self.old.group.count }
         ensures { Regrouped (B.Book.order self.old.book) self.old.group group (B.Book.order self.new.book) self.new.group result }
     {
-        judge(&Arrangement {
+        let cells = Arrangement {
             book: &self.book,
             group: &group,
-        })?;
+        };
+        judge(&cells)?;
         self.group = group;
         Ok(())
     }
@@ -45,10 +46,11 @@ impl<B: Book> Sheet<B> {
         // what does not lie to each other is not swapped: a number that is no cell, or a cell and itself
         self.book.relation(a, b)?;
         self.book.swap(a, b)?;
-        if let Err(fault) = judge(&Arrangement {
+        let cells = Arrangement {
             book: &self.book,
             group: &self.group,
-        }) {
+        };
+        if let Err(fault) = judge(&cells) {
             let _ = self.book.swap(a, b);
             return Err(fault);
         }

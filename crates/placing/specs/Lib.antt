@@ -6,4 +6,3 @@ pub mod Reach
 pub mod Values
 pub mod Sizes
 pub mod Placing
-pub mod Lent

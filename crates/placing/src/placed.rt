@@ -2,10 +2,8 @@
 ghost use Rattle.std.specs.Prelude.{◌≡◌};
 ghost use Rattle.placement.specs.Couples.{Clean};
 ghost use Rattle.group.specs.Arranged.{meaning_of};
-ghost use Rattle.placing.specs.Placing.{Placing};
-ghost use Rattle.placing.specs.Lent.{lent, handed_back, AsLong};
+ghost use Rattle.placing.specs.Placing.{Placing, five};
 
-use crate::lists::Lists;
 use crate::sizes::{check_lists, check_sizes};
 use crate::values::{Extent, give};
 use book::Book;
@@ -17,21 +15,18 @@ use refusal::SheetFault;
 /// Places the sheet that the book and the group make up: fills the work list and the lists of left and bottom edges.
 ///
 /// Where no couple is forbidden, it refuses nothing but lists of the wrong length and unlawful sizes.
+// (five lists, and no struct of them: a clause sees what is lent in a struct as nested pairs, and a caller's promise would say less plainly what
+// each list held before and holds after)
 pub fn place<B: Book, T: Length>(
     cells: &Arrangement<B>,
-    lists: Lists<T>,
+    widths: &[T],
+    heights: &[T],
+    work: &mut [T],
+    x: &mut [T],
+    y: &mut [T],
 ) -> Result<Extent<T>, SheetFault>
-    ensures lengths { AsLong (lent lists.entry) (handed_back lists.exit) }
-    ensures outcome { Clean (meaning_of cells.now) → Placing T.Length.kind (meaning_of cells.now) (lent lists.entry) (handed_back lists.exit) result }
+    ensures { Clean (meaning_of cells.now) → Placing T.Length.kind (meaning_of cells.now) (five widths.now heights.now work.old x.old y.old) (five widths.now heights.now work.new x.new y.new) result }
 {
-    // (the parts are passed on one by one: the proof loses sight of what is written through lists that are passed on whole)
-    let Lists {
-        widths,
-        heights,
-        work,
-        x,
-        y,
-    } = lists;
     let n = cells.book.count();
     check_lists(n, widths.len(), heights.len(), work.len(), x.len(), y.len())?;
     check_sizes(cells.group, widths, heights)?;

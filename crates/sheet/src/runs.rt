@@ -36,7 +36,7 @@ impl<B: Book> Sheet<B> {
         let mut work = vec![in heap; T::zero(); 2 * n]?;
         let mut x = vec![in heap; T::zero(); n]?;
         let mut y = vec![in heap; T::zero(); n]?;
-        match self.fill(widths, heights, &mut work, &mut x, &mut y) {
+        match self.place(widths, heights, &mut work, &mut x, &mut y) {
             Ok(extent) => Ok(Answer::Placed(Coordinates { work, x, y, extent })),
             Err(fault) => Ok(Answer::Refused(fault)),
         }

@@ -3,34 +3,33 @@ use Rattle.std.proofs.Common.{ℕ, sym, refl, subst}
 use Rattle.book.proofs.Exits.{exit_at}
 use Rattle.group.specs.Arranged.{meaning_of}
 use Rattle.group.proofs.LawfulSheet.{lawful_arranged}
-use Rattle.placing.specs.Lent.{lent}
 use Rattle.placing.specs.Sizes.{Unlawful, entries}
-use Rattle.placing.specs.Placing.{Misfitting, Fitting, Placing, misfitting, unlawful, placed}
+use Rattle.placing.specs.Placing.{five, Misfitting, Fitting, Placing, misfitting, unlawful, placed}
 use Rattle.placing.proofs.placed.place.Goals as goal
 
-pub returns-in_err-check_lists-clause-outcome : goal.returns-in_err-check_lists-clause-outcome
-returns-in_err-check_lists-clause-outcome g c clean =
+pub returns-in_err-check_lists : goal.returns-in_err-check_lists
+returns-in_err-check_lists g c clean =
     let k = g.T.Length.kind in
     let m = meaning_of c.args.cells.now in
-    let l = lent c.args.lists in
+    let l = five c.args.widths.now c.args.heights.now c.args.work.now c.args.x.now c.args.y.now in
     let f = c.in_err-check_lists.field-0.0 in
     exit_at (Placing k m l l) c.from_residual.result f c.from_residual.ensures.1
     (misfitting (subst (λ (n : ℕ). Misfitting n l f) c.count-n.ensures c.in_err-check_lists.ensures) refl)
 
-pub returns-in_err-check_sizes-clause-outcome : goal.returns-in_err-check_sizes-clause-outcome
-returns-in_err-check_sizes-clause-outcome g c clean =
+pub returns-in_err-check_sizes : goal.returns-in_err-check_sizes
+returns-in_err-check_sizes g c clean =
     let k = g.T.Length.kind in
     let m = meaning_of c.args.cells.now in
-    let l = lent c.args.lists in
+    let l = five c.args.widths.now c.args.heights.now c.args.work.now c.args.x.now c.args.y.now in
     let f = c.in_err-check_sizes.field-0.0 in
     exit_at (Placing k m l l) c.from_residual-in_err-check_sizes.result f c.from_residual-in_err-check_sizes.ensures.1
     (unlawful (subst (λ (n : ℕ). Fitting n l) c.count-n.ensures c.in_ok-check_lists.ensures)
     (subst (λ (n : ℕ). Unlawful k m.mate n (entries k l.widths) (entries k l.heights) f) c.args.cells.now.counted c.in_err-check_sizes.ensures) refl)
 
-pub returns-in-Some-clause-outcome : goal.returns-in-Some-clause-outcome
-returns-in-Some-clause-outcome g c clean =
+pub returns-in-Some : goal.returns-in-Some
+returns-in-Some g c clean =
     let m = meaning_of c.args.cells.now in
-    let l = lent c.args.lists in
+    let l = five c.args.widths.now c.args.heights.now c.args.work.now c.args.x.now c.args.y.now in
     let lawful = lawful_arranged c.args.cells.now (g.met.B.Book.lawful c.args.cells.now.book.now) in
     let sizes = c.in_ok-check_sizes.ensures m.order (sym c.args.cells.now.counted) in
     placed (subst (λ (n : ℕ). Fitting n l) c.count-n.ensures c.in_ok-check_lists.ensures) sizes
@@ -40,7 +39,7 @@ returns-in-Some-clause-outcome g c clean =
       best = c.rule_is_best.ensures m lawful _ _ _ _ _ _ _ _ sizes c.in-Some.ensures;
     })
 
-pub returns-clause-outcome : goal.returns-clause-outcome
-returns-clause-outcome g c clean =
+pub returns : goal.returns
+returns g c clean =
     let m = meaning_of c.args.cells.now in
     absurd (c.in_default.ensures clean (c.in_ok-check_sizes.ensures m.order (sym c.args.cells.now.counted)))

@@ -7,6 +7,7 @@ use book::MOST_CELLS;
 
 /// A symmetry group over so many cells: the partner of each cell, which is the other of its pair, the cell itself where
 /// it is centred, or none where it is free. Partners are partners of each other.
+// (An array and a count, without a heap: a group is a plain value that is copied and needs no memory.)
 #[derive(Clone, Copy)]
 pub struct Group {
     pub(crate) count: usize,

@@ -22,10 +22,7 @@ fn image_number(group: &Group, a: usize) -> usize
     ensures value { result ≡ image_of group.now.count a (mate_of group.now a) }
     ensures node { result < 2 * group.now.count }
 {
-    match group.partner(a) {
-        Some(mate) => mate,
-        None => group.count() + a,
-    }
+    group.partner(a).unwrap_or(group.count() + a)
 }
 
 /// Adds the two steps that stand for `a` left of `b`: from `b` to `a`, and from the image of `a` to that of `b`.

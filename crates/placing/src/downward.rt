@@ -14,6 +14,9 @@ use graph::Graph;
 use group::{Arrangement, Group};
 use length::Length;
 
+// (The graph across is built alike, in `across`. One text for both would need a trait with ghost members for the relation and
+// the steps, and two types to carry them: more to read than the two loops.)
+
 /// Adds the steps to `b` from `a` and from its mate.
 fn link_fall(group: &Group, graph: &mut Graph, a: usize, b: usize)
     requires nodes { graph.old.nodes ≡ group.now.count }

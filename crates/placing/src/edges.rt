@@ -14,10 +14,10 @@ use length::Length;
 fn is_right_member<B: Book>(cells: &Arrangement<B>, a: usize) -> bool
     ensures { Decides result (RightMember (meaning_of cells.now) a) }
 {
-    match cells.group.partner(a) {
-        Some(mate) => is_left(cells.book, mate, a),
-        None => false,
-    }
+    cells
+        .group
+        .partner(a)
+        .is_some_and(|mate| is_left(cells.book, mate, a))
 }
 
 /// Is a right member left of `a`?

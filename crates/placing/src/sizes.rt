@@ -7,7 +7,7 @@ use group::Group;
 use length::Length;
 use refusal::{SheetFault, Side};
 
-// The places of a placing's lists, as a refusal counts them.
+// The places of a placing's lists, as a refusal counts them: it holds a number, from 1 on.
 const WIDTHS: usize = 1;
 
 const HEIGHTS: usize = 2;

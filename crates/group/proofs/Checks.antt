@@ -2,13 +2,14 @@
 use Rattle.std.proofs.Common.{◌≡◌, ℕ, ◌<◌, true, false, ltb, ◌≢◌, Ok, Result, arith}
 use Rattle.std.proofs.lemmas.Bool.Decides.{nat_tests}
 use Rattle.refusal.specs.declared.fault.SheetFault.{SheetFault}
-use Rattle.group.specs.Edits.{Mates, grouped, cell_of, free_in, pair_check, centre_check, release_check}
+use Rattle.book.specs.Calls.{of_cell}
+use Rattle.group.specs.Edits.{Mates, grouped, free_in, pair_check, centre_check, release_check}
 
 abbrev Answer : Type 0
 Answer = Result (Unit {0}) SheetFault
 
 -- what an `Ok` of each check tells
-pub cell_ok : (n a : ℕ) → ◌≡◌ {A = Answer} (Ok tt) (cell_of n a (Ok tt)) → a < n
+pub cell_ok : (n a : ℕ) → ◌≡◌ {A = Answer} (Ok tt) (of_cell n a (Ok tt)) → a < n
 cell_ok n a e = grind (arith, nat_tests)
 
 pub free_ok : (mate : Mates) (a : ℕ) → ◌≡◌ {A = Answer} (Ok tt) (free_in mate a (Ok tt)) → grouped mate a ≡ false

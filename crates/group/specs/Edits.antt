@@ -1,7 +1,8 @@
 -- What the edits of a group make of the mates, and when they are refused.
-use Rattle.std.specs.Prelude.{ℕ, Bool, false, cond, is_some, Some, None, Ok, Err, Option, Result, ◌==◌, nat_lt}
+use Rattle.std.specs.Prelude.{ℕ, Bool, false, cond, is_some, Some, None, Ok, Err, Option, Result, ◌==◌}
 use Rattle.refusal.specs.declared.fault.SheetFault.{SheetFault}
-use Rattle.refusal.specs.declared.fault.SheetFault.TheVariants.{NoSuchCell, SameCell, AlreadyGrouped, NotGrouped}
+use Rattle.book.specs.Calls.{of_cell}
+use Rattle.refusal.specs.declared.fault.SheetFault.TheVariants.{SameCell, AlreadyGrouped, NotGrouped}
 
 abbrev pub Mates : Type 0
 Mates = ℕ → Option ℕ
@@ -31,21 +32,18 @@ freed a mate x = cond (x == a) None (cond (names (mate a) x) None (mate x))
 abbrev pub grouped : Mates → ℕ → Bool
 grouped mate a = is_some (mate a)
 
--- no fault, or the rest's
-abbrev pub cell_of : ℕ → ℕ → Result (Unit {0}) SheetFault → Result (Unit {0}) SheetFault
-cell_of n a rest = cond (nat_lt a n) rest (Err (NoSuchCell a))
-
+-- a cell of the group is refused, and else the rest decides
 abbrev pub free_in : Mates → ℕ → Result (Unit {0}) SheetFault → Result (Unit {0}) SheetFault
 free_in mate a rest = cond (grouped mate a) (Err (AlreadyGrouped a)) rest
 
 -- two cells of n, different, and free both; the first check that fails is told
 abbrev pub pair_check : ℕ → Mates → ℕ → ℕ → Result (Unit {0}) SheetFault
-pair_check n mate a b = cell_of n a (cell_of n b (cond (a == b) (Err (SameCell a)) (free_in mate a (free_in mate b (Ok tt)))))
+pair_check n mate a b = of_cell n a (of_cell n b (cond (a == b) (Err (SameCell a)) (free_in mate a (free_in mate b (Ok tt)))))
 
 -- a free cell of n
 abbrev pub centre_check : ℕ → Mates → ℕ → Result (Unit {0}) SheetFault
-centre_check n mate a = cell_of n a (free_in mate a (Ok tt))
+centre_check n mate a = of_cell n a (free_in mate a (Ok tt))
 
 -- a cell of n that is in the group
 abbrev pub release_check : ℕ → Mates → ℕ → Result (Unit {0}) SheetFault
-release_check n mate a = cell_of n a (cond (grouped mate a) (Ok tt) (Err (NotGrouped a)))
+release_check n mate a = of_cell n a (cond (grouped mate a) (Ok tt) (Err (NotGrouped a)))

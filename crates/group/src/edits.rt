@@ -1,10 +1,10 @@
 //! Making a group and changing it: the checks that need no order, and the mates afterwards.
 ghost use Rattle.std.specs.Prelude.{◌≡◌, ℕ, ◌<◌, ◌≤◌, Ok, Err, MatchResult};
 ghost use Rattle.group.specs.Group.{mate_of};
-ghost use Rattle.group.specs.Edits.{nobody, paired, centred, freed, cell_of, free_in, pair_check, centre_check, release_check};
+ghost use Rattle.group.specs.Edits.{nobody, paired, centred, freed, free_in, pair_check, centre_check, release_check};
 
 use crate::table::Group;
-use book::{Book, MOST_CELLS, within};
+use book::{Book, MOST_CELLS, cell_within, within};
 use refusal::SheetFault;
 
 impl Group {
@@ -31,16 +31,6 @@ impl Group {
         ensures { result ≡ mate_of self.now a }
     {
         (*self.partner.get(a)?).map(usize::from)
-    }
-
-    /// Refuses a number that is no cell.
-    fn check_cell(&self, a: usize) -> Result<(), SheetFault>
-        ensures { result ≡ cell_of self.now.count a (Ok tt) }
-    {
-        if a >= self.count {
-            return Err(SheetFault::NoSuchCell { cell: a });
-        }
-        Ok(())
     }
 
     /// Refuses a cell that is in the group.
@@ -83,7 +73,7 @@ impl Group {
         ensures count { self.new.count ≡ self.old.count }
         ensures mates { MatchResult result (λ _. (x : ℕ) → mate_of self.new x ≡ centred a (mate_of self.old) x) (λ _. (x : ℕ) → mate_of self.new x ≡ mate_of self.old x) }
     {
-        self.check_cell(a)?;
+        cell_within(self.count, a)?;
         self.check_free(a)?;
         self.partner[a] = Some(a as u8);
         Ok(())
@@ -95,7 +85,7 @@ impl Group {
         ensures count { self.new.count ≡ self.old.count }
         ensures mates { MatchResult result (λ _. (x : ℕ) → mate_of self.new x ≡ freed a (mate_of self.old) x) (λ _. (x : ℕ) → mate_of self.new x ≡ mate_of self.old x) }
     {
-        self.check_cell(a)?;
+        cell_within(self.count, a)?;
         let Some(mate) = self.partner(a) else {
             return Err(SheetFault::NotGrouped { cell: a });
         };

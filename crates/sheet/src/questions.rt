@@ -5,7 +5,7 @@ ghost use Rattle.group.specs.Group.{sheet_of};
 ghost use Rattle.sheet.specs.Alike.{AlikeSheets, partner_of};
 
 use crate::sheet::Sheet;
-use book::{Book, Relation};
+use book::{Book, Relation, cell_within};
 use refusal::SheetFault;
 
 impl<B: Book> Sheet<B> {
@@ -27,9 +27,7 @@ impl<B: Book> Sheet<B> {
     pub fn partner(&self, a: usize) -> Result<Option<usize>, SheetFault>
         ensures { result ≡ partner_of (sheet_of (B.Book.order self.now.book) self.now.group) a }
     {
-        if a >= self.book.count() {
-            return Err(SheetFault::NoSuchCell { cell: a });
-        }
+        cell_within(self.book.count(), a)?;
         Ok(self.group.partner(a))
     }
 }

@@ -8,11 +8,11 @@ pub invariant_of-self : goal.invariant_of-self
 invariant_of-self c =
     let s = c.args.self.now in
     let free = not_some _ (sym (free_ok (mate_of s) c.args.a c.in_ok-check_free.ensures)) in
-    let w = centre_written s c.args.a (cell_ok s.count c.args.a c.in_ok-check_cell.ensures) free in
+    let w = centre_written s c.args.a (cell_ok s.count c.args.a c.in_ok-cell_within.ensures) free in
     record { few = s.few; long = w.long; inside = w.inside; returned = w.returned }
 
 pub returns-clause-mates : goal.returns-clause-mates
 returns-clause-mates c =
     let s = c.args.self.now in
     let free = not_some _ (sym (free_ok (mate_of s) c.args.a c.in_ok-check_free.ensures)) in
-    (centre_written s c.args.a (cell_ok s.count c.args.a c.in_ok-check_cell.ensures) free).means
+    (centre_written s c.args.a (cell_ok s.count c.args.a c.in_ok-cell_within.ensures) free).means

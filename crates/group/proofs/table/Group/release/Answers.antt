@@ -19,10 +19,10 @@ bounds-self-mate c =
 pub invariant_of-self : goal.invariant_of-self
 invariant_of-self c =
     let s = c.args.self.now in
-    let w = release_written s c.args.a (cell_ok s.count c.args.a c.in_ok-check_cell.ensures) c.in-Some.mate (sym c.in-Some.ensures) in
+    let w = release_written s c.args.a (cell_ok s.count c.args.a c.in_ok-cell_within.ensures) c.in-Some.mate (sym c.in-Some.ensures) in
     record { few = s.few; long = w.long; inside = w.inside; returned = w.returned }
 
 pub returns-clause-mates : goal.returns-clause-mates
 returns-clause-mates c =
     let s = c.args.self.now in
-    (release_written s c.args.a (cell_ok s.count c.args.a c.in_ok-check_cell.ensures) c.in-Some.mate (sym c.in-Some.ensures)).means
+    (release_written s c.args.a (cell_ok s.count c.args.a c.in_ok-cell_within.ensures) c.in-Some.mate (sym c.in-Some.ensures)).means

@@ -1,6 +1,7 @@
 -- One turn of a loop that reads: what is left to read makes the whole.
-use Rattle.std.proofs.Common.{◌≡◌, ℕ, suc, ◌+◌, ◌-◌, ◌<◌, ◌≤◌, Bool, List, [], ◌∷◌, ◌++◌, map, length, Ok, Err, sym, ap, ◌∙◌, subst, arith, length-append}
+use Rattle.std.proofs.Common.{◌≡◌, ℕ, suc, ◌+◌, ◌-◌, ◌<◌, ◌≤◌, Bool, List, [], ◌∷◌, ◌++◌, map, length, take, Ok, Err, sym, ap, ◌∙◌, ◌⊎◌, ⊎_elim, subst, arith, length-append}
 use Rattle.std.proofs.lemmas.List.{map-append}
+use Rattle.std.proofs.Math.Seq.{take-append_seam}
 use Rattle.refusal.specs.declared.fault.FieldFault.{FieldFault}
 use Rattle.refusal.specs.declared.fault.Side.{Side}
 use Rattle.refusal.specs.declared.fault.Side.TheVariants.{Width, Height}
@@ -55,6 +56,13 @@ module _ (n size i : ℕ) (before : List Entry) (file : List ℕ) (p : ℕ) wher
 
   pub entries_done : size ≤ i → entries n (size - i) before file p ≡ Ok (before, p)
   entries_done h = ap (λ (k : ℕ). entries n k before file p) (none_left size i h)
+
+pub at_most_three : (n : ℕ) → (n ≡ 1) ⊎ (n ≡ 3) → n ≤ 3
+at_most_three n e = ⊎_elim (λ one. omega (arith, one)) (λ three. omega (arith, three)) e
+
+-- a list's front, of its length
+pub front : {A : Type 0} (xs ys : List A) (k : ℕ) → length xs ≡ k → take k (xs ++ ys) ≡ xs
+front xs ys k e = ap (λ (m : ℕ). take m (xs ++ ys)) (sym e) ∙ take-append_seam xs ys
 
 -- what a part of the file read as, said of an equal list before it and of the file itself
 pub re_read : {A B : Type 0} (read : B → List ℕ → A) {before before' : B} {file file' : List ℕ} {r : A} → before ≡ before' → file ≡ file' → read before file ≡ r → read before' file' ≡ r

@@ -1,7 +1,8 @@
 -- What a call of the reader came to, by what its part of the file reads as.
-use Rattle.std.specs.Prelude.{◌≡◌, ℕ, List, Ok, Err, Result, MatchResult}
+use Rattle.std.specs.Prelude.{◌≡◌, ℕ, List, Option, Ok, Err, Result, MatchResult}
 use Rattle.refusal.specs.declared.fault.ByteFault.{ByteFault}
 use Rattle.refusal.specs.declared.fault.FieldFault.{FieldFault}
+use Rattle.numbers.specs.Number.{Storable}
 use Rattle.numbers.specs.Calls.{number_at}
 use Rattle.formats.specs.Reading.{Reading}
 use Rattle.reading.specs.declared.error.ReadError.{ReadError}
@@ -34,6 +35,10 @@ TookBy says read = Came says Refuses read
 -- and of one that may run out of memory
 abbrev pub TookAs : {A B : Type 0} → (B → A) → (List ℕ → ℕ → Reading A) → Reader → Result B ReadError → Reader → Type 0
 TookAs says read = Came says Fails read
+
+-- what may be answered for a number that a file can hold is what `means` says of it
+abbrev pub Knows : {A : Type 0} → (ℕ → Option A → Type 0) → (ℕ → Option A) → Type 0
+Knows {A} answers means = (v : ℕ) (a : Option A) → Storable v → answers v a → a ≡ means v
 
 -- the call of a number, which leaves the reader where it is where there is none
 pub record TookNumber (r : Reader) (answer : Result ℕ ByteFault) (r' : Reader) : Type 0 where

@@ -1,11 +1,11 @@
 //! Fields of one number, and group entries of two.
-ghost use Rattle.std.specs.Prelude.{◌≡◌, ℕ, ◌^◌, ◌<◌, ◌≤◌, ◌⊎◌, Option, Some, IfOk};
+ghost use Rattle.std.specs.Prelude.{◌≡◌, ℕ, ◌≤◌, ◌⊎◌, Option, Some, IfOk};
 ghost use Rattle.book.specs.Order.{most_cells};
 ghost use Rattle.refusal.specs.declared.fault.FieldFault.TheVariants as fault;
 ghost use Rattle.formats.specs.Choices.{book_of, turn_of};
 ghost use Rattle.formats.specs.Rules as rule;
 ghost use Rattle.formats.specs.Reading as file;
-ghost use Rattle.reading.specs.Calls.{Took};
+ghost use Rattle.reading.specs.Calls.{Took, Knows};
 
 use crate::reader::Reader;
 use formats::{BookKind, Entry, PLACEMENT_MARK, Turn, fits_entry, is_count};
@@ -16,7 +16,7 @@ impl<'a> Reader<'a> {
     fn choice<C, F: Fn(u32) -> Option<C>>(&mut self, known: F) -> Result<C, FieldFault>
         requires { F.IsAlwaysCallable known }
         ensures of { IfOk result (λ c. (v : ℕ) × F.post known v (Some c)) }
-        ensures told { (means : ℕ → Option C) → ((v : ℕ) (c : Option C) → v < 2 ^ 32 → F.post known v c → c ≡ means v) → Took (file.choice means) self.old result self.new }
+        ensures told { (means : ℕ → Option C) → Knows (F.post known) means → Took (file.choice means) self.old result self.new }
     {
         let at = self.at;
         let number = self.number()?;

@@ -13,6 +13,7 @@ use length::{Numbered, PerProcess, Plain};
 use std::alloc::Global;
 
 /// A job with one number a length, or with one for each of three processes.
+// One enum for jobs and placements would need two parameters and two aliases, and be no shorter.
 #[derive(Drop)]
 pub enum AnyJob {
     One(Job<Plain>),

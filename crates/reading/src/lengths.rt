@@ -21,6 +21,8 @@ pub(crate) enum Allowed {
 }
 
 /// Two lengths of each cell: widths and heights, or left edges and bottoms.
+///
+/// Two lists, and no list of pairs: a placing takes each by itself, and a list of the wrong length is refused by its number.
 #[derive(Drop)]
 pub(crate) struct Columns<T> {
     pub(crate) firsts: Vec<T>,

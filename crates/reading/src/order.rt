@@ -87,6 +87,7 @@ impl<'a> Reader<'a> {
     ) -> Result<Vec<Entry>, ReadError>
         ensures { TookAs vec_items (file.entries n count []) self.old result self.new }
     {
+        // no text in common with `order_list`: it would take a closure over the reader and the items so far, and be longer
         let mut entries = Vec::new(heap);
         for _ in 0..count {
             let entry = self.entry(n, &entries)?;

@@ -1,19 +1,10 @@
-use Rattle.std.proofs.Common.{ℕ, ◌+◌, ◌-◌, ◌<◌, ◌≤◌, List, length, take, Ok, sym, refl, ap, ◌∙◌, arith}
-use Rattle.std.proofs.lemmas.List.{take_all, take_more_set, length-set, length-take}
+use Rattle.std.proofs.Common.{ℕ, ◌+◌, ◌-◌, ◌<◌, List, length, take, sym, refl, ap, ◌∙◌, arith}
+use Rattle.std.proofs.lemmas.List.{take_more_set, length-set}
 use Rattle.formats.specs.Reading.{list, alone, not_a_size, length_number_at}
 use Rattle.reading.specs.Held.{rule_of}
-use Rattle.reading.proofs.Turns.{all_left, at_most_three, front, list_more, list_fails, list_done, re_read}
+use Rattle.reading.proofs.Turns.{list_more, list_fails, re_read}
 use Rattle.book.proofs.Exits.{exit_with}
 use Rattle.reading.proofs.reader.Reader.length.Goals as goal
-
-pub loop-number-init : goal.loop-number-init
-loop-number-init g c =
-    let few = at_most_three _ g.met.T.Length.counted in
-    record {
-      same = refl;
-      long = omega (arith, length-take {A = ℕ});
-      left = all_left (λ (k : ℕ) (ns : List ℕ). list (alone (rule_of c.args.allowed)) (not_a_size c.args.cell c.args.side) k ns c.args.self.now.bytes.now c.args.self.now.at) g.T.Length.NUMBERS refl;
-    }
 
 pub returns-in_err-number : goal.returns-in_err-number
 returns-in_err-number g c =
@@ -50,22 +41,4 @@ loop-number-preserved g c =
           l.invariant.left
           ∙ list_more (alone rule) (not_a_size cell side) g.T.Length.NUMBERS i (take i ns) file l.self.at v _ more here
           ∙ ap (λ (xs : List ℕ). list (alone rule) (not_a_size cell side) (g.T.Length.NUMBERS - (i + 1)) xs file c.length_number.new.self.at) (sym (take_more_set ns i v inside));
-    }
-
-pub returns : goal.returns
-returns g c =
-    let rule = rule_of c.args.allowed in
-    let l = c.loop-number in
-    let k = g.T.Length.NUMBERS in
-    let ns = l.number-items in
-    let few = at_most_three _ g.met.T.Length.counted in
-    let none : k ≤ l.number-index = omega (arith, length-take {A = ℕ}) in
-    let all : length ns ≤ l.number-index = omega (arith, l.invariant.long) in
-    let said = take_all l.number-index ns all ∙ sym (c.from_numbers.ensures ∙ front ns _ k l.invariant.long) in
-    record {
-      same = l.invariant.same;
-      told =
-          l.invariant.left
-          ∙ list_done (alone rule) (not_a_size c.args.cell c.args.side) k l.number-index (take l.number-index ns) c.args.self.now.bytes.now l.self.at none
-          ∙ ap (λ (xs : List ℕ). Ok (xs, l.self.at)) said;
     }

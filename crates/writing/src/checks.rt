@@ -37,7 +37,7 @@ fn check_length(ok: bool, list: usize) -> Result<(), SheetFault>
 fn is_long<T: Numbered>(n: usize, processes: usize, list: &[T]) -> bool
     ensures { result ≡ file.are_long n processes (map T.Numbered.numbers list.now) }
 {
-    list.len() == n && (list.is_empty() || T::count() == processes)
+    list.len() == n && (list.is_empty() || T::NUMBERS == processes)
 }
 
 /// Checks two lists of lengths, the first of which has this number.

@@ -59,7 +59,7 @@ impl<'a> Pen<'a> {
         ensures { Puts self.old (T.Numbered.numbers length) self.new }
     {
         let numbers = length.to_numbers();
-        for number in &numbers[..T::count()] {
+        for number in &numbers[..T::NUMBERS] {
             self.number(*number);
         }
     }

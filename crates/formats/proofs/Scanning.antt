@@ -11,17 +11,8 @@ from_index xs i d h = rw (add-one i) (drop-cons xs i d h)
 pub among_here : (v u : ℕ) (us : List ℕ) → u ≡ v → among v (u ∷ us) ≡ true
 among_here v u us e = grind (arith, nat_tests)
 
-pub among_later : (v u : ℕ) (us : List ℕ) → (u ≡ v → ⊥) → among v (u ∷ us) ≡ among v us
-among_later v u us e = grind (arith, nat_tests)
-
 pub waiting_cell : (n parts k : ℕ) (ks : List ℕ) → k < n → waiting n parts (k ∷ ks) ≡ waiting n (parts + 1) ks
 waiting_cell n parts k ks h = let e : ltb k n ≡ true = grind (arith, nat_tests) in rw e
 
 pub waiting_join : (n parts k : ℕ) (ks : List ℕ) → n ≤ k → waiting n parts (k ∷ ks) ≡ waiting n (parts - 1) ks
 waiting_join n parts k ks h = let e : ltb k n ≡ false = grind (arith, nat_tests) in rw e
-
-pub follows_not : (e next : Entry) (es : List Entry) → follows e next ≡ false → entry_follows_all (e ∷ es) next ≡ false
-follows_not e next es h = rw h
-
-pub follows_more : (e next : Entry) (es : List Entry) → follows e next ≡ true → entry_follows_all (e ∷ es) next ≡ entry_follows_all es next
-follows_more e next es h = rw h

@@ -1,9 +1,13 @@
 -- The numbers that stand for something else: the kind of a book, a turn.
-use Rattle.std.specs.Prelude.{ℕ, Bool, true, false, cond, Some, None, Option, ◌==◌}
+use Rattle.std.specs.Prelude.{ℕ, Bool, true, false, cond, Some, None, Option, Result, MatchResult, ◌≡◌, ◌==◌}
 use Rattle.formats.specs.declared.fields.BookKind.{BookKind}
 use Rattle.formats.specs.declared.fields.BookKind.TheVariants.{SequencePair, Slicing}
 use Rattle.formats.specs.declared.fields.Turn.{Turn}
 use Rattle.formats.specs.declared.fields.Turn.TheVariants.{AsItIs, Transposed, Flipped, TransposedFlipped}
+
+-- a number stands for what `known` says, or for nothing, and r says which
+abbrev pub StandsFor : {A E : Type 0} → (ℕ → Option A) → ℕ → Result A E → Type 0
+StandsFor known v r = MatchResult r (λ a. known v ≡ Some a) (λ _. known v ≡ None)
 
 abbrev pub book_of : ℕ → Option BookKind
 book_of v = cond (v == 1) (Some SequencePair) (cond (v == 2) (Some Slicing) None)

@@ -1,5 +1,6 @@
 -- Which fields are lawful, by the fields before them.
-use Rattle.std.specs.Prelude.{ℕ, ◌+◌, ◌-◌, Bool, true, false, cond, not, ◌&&◌, ◌||◌, List, [], ◌∷◌, ◌==◌, nat_le, nat_lt}
+use Rattle.std.specs.Prelude.{ℕ, ◌+◌, ◌-◌, Bool, cond, not, ◌&&◌, ◌||◌, List, ◌==◌, nat_le, nat_lt, fold}
+use Rattle.std.specs.List.{list_any, list_all}
 use Rattle.book.specs.Order.{most_cells}
 use Rattle.length.specs.Kind.{largest_size}
 use Rattle.formats.specs.declared.fields.BookKind.{BookKind}
@@ -20,13 +21,11 @@ is_size_number v = nat_lt 0 v && nat_le v largest_size
 
 -- v is one of these
 abbrev pub among : ℕ → List ℕ → Bool
-among v [] = false
-among v (u ∷ us) = u == v || among v us
+among v us = list_any (λ u. u == v) us
 
 -- how many parts wait after these numbers of an expression, where so many waited before: a cell is one more, a join one fewer
 abbrev pub waiting : ℕ → ℕ → List ℕ → ℕ
-waiting n parts [] = parts
-waiting n parts (k ∷ ks) = waiting n (cond (nat_lt k n) (parts + 1) (parts - 1)) ks
+waiting n parts ks = fold (λ ps k. cond (nat_lt k n) (ps + 1) (ps - 1)) parts ks
 
 -- v may follow the numbers of a row: a cell that is not there yet
 abbrev pub fits_row : ℕ → List ℕ → ℕ → Bool
@@ -49,8 +48,7 @@ abbrev pub follows : Entry → Entry → Bool
 follows e next = nat_lt e.first next.first && not (names e next.first) && not (names e next.second)
 
 abbrev pub entry_follows_all : List Entry → Entry → Bool
-entry_follows_all [] next = true
-entry_follows_all (e ∷ es) next = follows e next && entry_follows_all es next
+entry_follows_all es next = list_all (λ e. follows e next) es
 
 -- an entry of n cells may follow those before it: the lower cell first, and after each entry before
 abbrev pub entry_fits : ℕ → List Entry → Entry → Bool

@@ -1,6 +1,9 @@
 //! The fields of a job that stand for something else than a number.
 ghost use Rattle.std.specs.Prelude.{◌≡◌};
-ghost use Rattle.formats.specs.Choices.{book_of, book_number, turn_of, turn_number, exchanges};
+ghost use Rattle.formats.specs.Choices.{book_of, book_number, turn_of, turn_number, StandsFor, exchanges};
+
+use std::error::Error;
+use std::fmt;
 
 /// The kind of a job's book.
 #[derive(Clone, Copy, PartialEq, Eq, Debug)]
@@ -19,6 +22,18 @@ pub enum Turn {
     TransposedFlipped,
 }
 
+/// A number that stands for nothing.
+#[derive(Clone, Copy, PartialEq, Eq, Debug, Drop)]
+pub struct UnknownChoice;
+
+impl fmt::Display for UnknownChoice {
+    fn fmt<W: fmt::Write>(&self, f: &mut fmt::Formatter<W>) -> fmt::Result {
+        write!(f, "the number stands for nothing that is known")
+    }
+}
+
+impl Error for UnknownChoice {}
+
 /// One entry of a job's symmetry group: a pair, the lower cell first, or a centred cell, which stands in both places.
 #[derive(Clone, Copy, PartialEq, Eq, Debug)]
 pub struct Entry {
@@ -26,55 +41,65 @@ pub struct Entry {
     pub second: usize,
 }
 
-impl BookKind {
-    /// The kind that a number in a file stands for.
-    pub fn from_number(number: u32) -> Option<BookKind>
-        ensures { result ≡ book_of number }
-    {
+/// The kind that a number in a file stands for.
+impl TryFrom<u32> for BookKind {
+    type Error = UnknownChoice;
+
+    ghost try_from_gives = { StandsFor book_of };
+
+    fn try_from(number: u32) -> Result<BookKind, UnknownChoice> {
         match number {
-            1 => Some(BookKind::SequencePair),
-            2 => Some(BookKind::Slicing),
-            _ => None,
+            1 => Ok(BookKind::SequencePair),
+            2 => Ok(BookKind::Slicing),
+            _ => Err(UnknownChoice),
         }
     }
+}
 
-    /// The number that stands for this kind in a file.
-    pub fn number(self) -> u32
-        ensures { result ≡ book_number self }
-    {
-        match self {
+/// The number that stands for the kind in a file.
+impl From<BookKind> for u32 {
+    ghost from_gives = { λ kind number. number ≡ book_number kind };
+
+    fn from(kind: BookKind) -> u32 {
+        match kind {
             BookKind::SequencePair => 1,
             BookKind::Slicing => 2,
         }
     }
 }
 
-impl Turn {
-    /// The turn that a number in a file stands for.
-    pub fn from_number(number: u32) -> Option<Turn>
-        ensures { result ≡ turn_of number }
-    {
+/// The turn that a number in a file stands for.
+impl TryFrom<u32> for Turn {
+    type Error = UnknownChoice;
+
+    ghost try_from_gives = { StandsFor turn_of };
+
+    fn try_from(number: u32) -> Result<Turn, UnknownChoice> {
         match number {
-            0 => Some(Turn::AsItIs),
-            1 => Some(Turn::Transposed),
-            2 => Some(Turn::Flipped),
-            3 => Some(Turn::TransposedFlipped),
-            _ => None,
+            0 => Ok(Turn::AsItIs),
+            1 => Ok(Turn::Transposed),
+            2 => Ok(Turn::Flipped),
+            3 => Ok(Turn::TransposedFlipped),
+            _ => Err(UnknownChoice),
         }
     }
+}
 
-    /// The number that stands for this turn in a file.
-    pub fn number(self) -> u32
-        ensures { result ≡ turn_number self }
-    {
-        match self {
+/// The number that stands for the turn in a file.
+impl From<Turn> for u32 {
+    ghost from_gives = { λ turn number. number ≡ turn_number turn };
+
+    fn from(turn: Turn) -> u32 {
+        match turn {
             Turn::AsItIs => 0,
             Turn::Transposed => 1,
             Turn::Flipped => 2,
             Turn::TransposedFlipped => 3,
         }
     }
+}
 
+impl Turn {
     /// Whether widths and heights, and x and y, change places.
     pub fn exchanges(self) -> bool
         ensures { result ≡ exchanges self }

@@ -6,7 +6,7 @@ mod job;
 mod placement;
 mod rules;
 
-pub use fields::{BookKind, Entry, Turn};
+pub use fields::{BookKind, Entry, Turn, UnknownChoice};
 pub use job::{Job, OrderLists};
-pub use placement::Placement;
+pub use placement::{PLACEMENT_MARK, Placement};
 pub use rules::{fits, fits_entry, is_count};

@@ -5,7 +5,8 @@ ghost use Rattle.formats.specs.Rules as rule;
 use crate::fields::{BookKind, Entry};
 use book::MOST_CELLS;
 
-/// How many waiting parts a join takes.
+/// How many waiting parts a join takes. Crate book has this number too: a book reads an expression for itself, and by no
+/// rule of files.
 const JOINED: usize = 2;
 
 /// Whether there can be so many cells.
@@ -15,22 +16,11 @@ pub fn is_count(n: usize) -> bool
     n > 0 && n <= MOST_CELLS
 }
 
-/// Whether `number` is one of these.
-fn among(number: usize, before: &[usize]) -> bool
-    ensures { result ≡ rule.among number before.now }
-{
-    for seen in before {
-        if *seen == number {
-            return true;
-        }
-    }
-    false
-}
-
 /// How many parts wait after these numbers of an expression over `n` cells.
 fn waiting(n: usize, before: &[usize]) -> usize
     ensures { result ≡ rule.waiting n 0 before.now }
 {
+    // no `fold`, which does not prove: the sum in its closure would have to fit after any count of parts
     let mut parts: usize = 0;
     for number in before {
         if *number < n {
@@ -47,7 +37,7 @@ pub fn fits(kind: BookKind, n: usize, before: &[usize], number: usize) -> bool
     ensures { result ≡ rule.fits kind n before.now number }
 {
     if number < n {
-        return !among(number, before);
+        return !before.contains(&number);
     }
     match kind {
         BookKind::SequencePair => false,
@@ -55,30 +45,27 @@ pub fn fits(kind: BookKind, n: usize, before: &[usize], number: usize) -> bool
     }
 }
 
-/// Whether the entry has the cell.
-fn names(entry: Entry, cell: usize) -> bool
-    ensures { result ≡ rule.names entry cell }
-{
-    entry.first == cell || entry.second == cell
+impl Entry {
+    /// Whether the entry has the cell.
+    fn names(self, cell: usize) -> bool
+        ensures { result ≡ rule.names self cell }
+    {
+        self.first == cell || self.second == cell
+    }
+
+    /// Whether `next` may come after this entry.
+    fn precedes(self, next: Entry) -> bool
+        ensures { result ≡ rule.follows self next }
+    {
+        self.first < next.first && !self.names(next.first) && !self.names(next.second)
+    }
 }
 
-/// Whether `next` may follow `entry`.
-fn follows(entry: Entry, next: Entry) -> bool
-    ensures { result ≡ rule.follows entry next }
-{
-    entry.first < next.first && !names(entry, next.first) && !names(entry, next.second)
-}
-
-/// Whether `next` may follow each of these.
+/// Whether `next` may come after each of these.
 fn follows_all(before: &[Entry], next: Entry) -> bool
     ensures { result ≡ rule.entry_follows_all before.now next }
 {
-    for entry in before {
-        if !follows(*entry, next) {
-            return false;
-        }
-    }
-    true
+    before.iter().all(|entry| entry.precedes(next))
 }
 
 /// Whether an entry of a group over `n` cells may follow these.

@@ -2,5 +2,5 @@ pub mod Standing
 pub mod Encoded
 pub mod ReadingBack
 pub mod ReadingSteps
-pub mod WritingSteps
 pub mod NumberLaws
+pub mod WritingSteps

@@ -15,8 +15,8 @@ told_got : (file : List ℕ) (p : ℕ) (g : Got) (v q : ℕ) → told file p g �
 told_got file p (got w n) v q e =
     let x : ◌≡◌ {A = ℕ × ℕ} (w, p + n) (v, q) = cc in
     (n, ap (λ (y : ℕ × ℕ). got y.0 n) x, sym (ap (λ (y : ℕ × ℕ). y.1) x))
-told_got file p short v q e = absurd (let z : ◌≡◌ {A = ℕ} 0 1 = cc in omega arith)
-told_got file p bad v q e = absurd (let z : ◌≡◌ {A = ℕ} 0 1 = cc in omega arith)
+told_got file p short v q e = absurd cc
+told_got file p bad v q e = absurd cc
 
 bytes_drop : (n : ℕ) (bs : List ℕ) → Bytes bs → Bytes (drop n bs)
 bytes_drop zero bs t = t

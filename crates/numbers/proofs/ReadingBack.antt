@@ -76,14 +76,14 @@ only_more (suc k) i b bs v n (got w m) e t u h f x r =
     let p : b - 128 + 128 * w ≡ v = cc in
     let q : m + 1 ≡ n = cc in
     subst (λ y. Was (suc k) i (b ∷ bs) v y) q (subst (λ y. Was (suc k) i (b ∷ bs) y (m + 1)) p y)
-only_more (suc k) i b bs v n short e t u h f x r = absurd (let z : ◌≡◌ {A = ℕ} 0 1 = cc in omega arith)
-only_more (suc k) i b bs v n bad e t u h f x r = absurd (let z : ◌≡◌ {A = ℕ} 0 1 = cc in omega arith)
+only_more (suc k) i b bs v n short e t u h f x r = absurd cc
+only_more (suc k) i b bs v n bad e t u h f x r = absurd cc
 
 only : (k i : ℕ) (bs : List ℕ) (v n : ℕ) → i + k ≡ 4 → Bytes bs → tail i bs ≡ got v n → Was k i bs v n
-only k i [] v n e t r = absurd (let z : ◌≡◌ {A = ℕ} 0 1 = cc in omega arith)
+only k i [] v n e t r = absurd cc
 only k i (b ∷ bs) v n e t r =
     ⊎_elim
-    (λ u. absurd (let x = tail_bad i b bs u in let z : ◌≡◌ {A = ℕ} 0 1 = cc in omega arith))
+    (λ u. absurd (let x = tail_bad i b bs u in cc))
     (λ u.
     ⊎_elim
     (λ h.

@@ -1,8 +1,8 @@
 -- One turn of reading a number: what the byte at its place makes of what was read, and that sums and products stay small.
-use Rattle.std.proofs.Common.{◌≡◌, ℕ, zero, suc, ◌+◌, ◌-◌, ◌*◌, ◌^◌, ◌<◌, ◌≤◌, true, false, List, length, get_or, drop, refl, ap, ◌∙◌, mul_assoc, mul_comm, mul-add, add-one, arith, drop-cons}
-use Rattle.numbers.specs.Number.{Got, got, short, bad, more, unlawful, tail}
+use Rattle.std.proofs.Common.{◌≡◌, ℕ, zero, suc, ◌+◌, ◌-◌, ◌*◌, ◌^◌, ◌<◌, ◌≤◌, false, List, drop, Ok, sym, refl, ap, ◌∙◌, mul_assoc, mul_comm, mul-add, arith}
+use Rattle.numbers.specs.Number.{Got, got, short, bad, more, unlawful, tail, decode}
+use Rattle.numbers.specs.Calls.{told, number_at}
 use Rattle.std.proofs.lemmas.Bool.Decides.{nat_tests}
-use Rattle.numbers.proofs.ReadingBack.{tail_last, tail_more, tail_bad}
 
 -- what was read of a number so far, a in n groups of which the next counts s, with what its other bytes read as
 abbrev pub lift : ℕ → ℕ → ℕ → Got → Got
@@ -10,14 +10,21 @@ lift a s n (got v m) = got (a + s * v) (n + m)
 lift a s n short = short
 lift a s n bad = bad
 
-pub step_bad : (i : ℕ) (s : List ℕ) (j : ℕ) → j < length s → unlawful i (get_or s j 0) ≡ true → tail i (drop j s) ≡ bad
-step_bad i s j h u = ap (tail i) (drop-cons s j 0 h) ∙ tail_bad i (get_or s j 0) (drop (suc j) s) u
+nothing_yet : (g : Got) → g ≡ lift 0 1 0 g
+nothing_yet (got v n) = let m : 0 + 1 * v ≡ v = omega arith in let k : 0 + n ≡ n = omega arith in rw (m, k)
+nothing_yet short = refl
+nothing_yet bad = refl
 
-pub step_last : (i : ℕ) (s : List ℕ) (j : ℕ) → j < length s → unlawful i (get_or s j 0) ≡ false → get_or s j 0 < 128 → tail i (drop j s) ≡ got (get_or s j 0) 1
-step_last i s j h u l = ap (tail i) (drop-cons s j 0 h) ∙ tail_last i (get_or s j 0) (drop (suc j) s) u l
+-- before the first byte nothing was read
+pub number_starts : (file : List ℕ) (p : ℕ) → decode (drop p file) ≡ lift 0 1 0 (tail 0 (drop p file))
+number_starts file p = nothing_yet (decode (drop p file))
 
-pub step_more : (i : ℕ) (s : List ℕ) (j : ℕ) → j < length s → unlawful i (get_or s j 0) ≡ false → 128 ≤ get_or s j 0 → tail i (drop j s) ≡ more (get_or s j 0) (tail (i + 1) (drop (j + 1) s))
-step_more i s j h u l = rw (add-one j) (ap (tail i) (drop-cons s j 0 h) ∙ tail_more i (get_or s j 0) (drop (suc j) s) u l)
+-- a number whose last byte is b
+pub number_ends : (file : List ℕ) (p a s i b : ℕ) → decode (drop p file) ≡ lift a s i (got b 1) → Ok (a + b * s, p + i + 1) ≡ number_at file p
+number_ends file p a s i b d =
+    let m = mul_comm s b in
+    let q : p + (i + 1) ≡ p + i + 1 = omega arith in
+    sym (ap (told file p) d ∙ rw (m, q))
 
 pub lift_more : (a s n b : ℕ) (g : Got) → lift a s n (more b g) ≡ lift (a + (b - 128) * s) (s * 128) (n + 1) g
 lift_more a s n b (got v m) =

@@ -28,22 +28,17 @@ pub fn read_number(file: &[u8], start: usize) -> Result<(u32, usize), ByteFault>
     }
     let mut value: u32 = 0;
     let mut scale: u32 = 1;
-    for i in 0..MOST_BYTES {
-        let at = start + i;
-        if at >= file.len() {
-            return Err(ends);
-        }
-        let byte = file[at];
-        if misplaced(i, byte) {
+    for (i, byte) in file[start..].iter().take(MOST_BYTES).enumerate() {
+        if misplaced(i, *byte) {
             return Err(ByteFault::NotShortest { at: start });
         }
-        if byte < MORE {
-            return Ok((value + u32::from(byte) * scale, at + 1));
+        if *byte < MORE {
+            return Ok((value + u32::from(*byte) * scale, start + i + 1));
         }
-        value += u32::from(byte - MORE) * scale;
+        value += u32::from(*byte - MORE) * scale;
         scale *= 128;
     }
-    unreachable()
+    Err(ends)
 }
 
 /// Whether no lawful number has the byte at its place `i`.
@@ -82,14 +77,12 @@ pub fn write_number(out: &mut [u8], at: usize, v: u32) -> usize
     if at > out.len() || out.len() - at < size {
         return size;
     }
-    let mut place = at;
     let mut rest = v;
-    while rest >= 128 {
-        out[place] = (rest % 128) as u8 + MORE;
-        place += 1;
+    for byte in out[at..at + size - 1].iter_mut() {
+        *byte = (rest % 128) as u8 + MORE;
         rest /= 128;
     }
-    out[place] = rest as u8;
+    out[at + size - 1] = rest as u8;
     size
 }
 

@@ -1,29 +1,42 @@
-use Rattle.std.proofs.Common.{◌≡◌, ℕ, ◌+◌, ◌*◌, ◌^◌, ◌<◌, get_or, drop, sym, ap, ◌∙◌, mul_comm, arith}
-use Rattle.std.proofs.lemmas.List.{at_drop_all}
-use Rattle.numbers.specs.Number.{short, tail}
+use Rattle.std.proofs.Common.{◌≡◌, ◌+◌, ◌*◌, ◌^◌, ◌<◌, true, false, length, drop, sym, ap, ◌∙◌, arith, rules}
+use Rattle.std.proofs.lemmas.List.{at_drop_all, length-drop, take_all}
+use Rattle.numbers.specs.Number.{short, unlawful, tail}
 use Rattle.numbers.specs.Calls.{told}
-use Rattle.numbers.proofs.ReadingSteps.{lift, step_bad, step_last, step_more, lift_more, bound_at, grows_at, lawful_last, not_last}
+use Rattle.numbers.proofs.ReadingBack.{tail_last, tail_more, tail_bad}
+use Rattle.numbers.proofs.ReadingSteps.{lift, number_starts, number_ends, lift_more, bound_at, grows_at, lawful_last, not_last}
 use Rattle.numbers.proofs.read_number.Goals as goal
 
-pub returns-then-start-file : goal.returns-then-start-file
-returns-then-start-file c =
-    let e : tail 0 (drop c.args.start c.args.file.now) ≡ short = at_drop_all (tail 0) c.args.file.now c.args.start (omega arith) in
-    record { moves = tt; told = sym (ap (told c.args.file.now c.args.start) e) }
+pub loop-i-init : goal.loop-i-init
+loop-i-init c =
+    let file = c.args.file.now in
+    let none : c.into_iter-i-iterator.result.count ≡ 0 = search rules in
+    let most : c.into_iter-i-iterator.result.iter.n ≡ 5 = search rules in
+    let lent : c.into_iter-i-iterator.result.iter.iter.rest.now ≡ c.iter.result.rest.now = search rules in
+    let all : c.into_iter-i-iterator.result.iter.iter.rest.now ≡ drop c.args.start file = lent ∙ c.iter.ensures.rest ∙ take_all _ _ (omega (arith, length-drop c.args.start file)) in
+    record {
+      few = omega arith;
+      to_take = omega arith;
+      scaled = rw none;
+      small = omega arith;
+      place = rw all (omega (arith, length-drop c.args.start file));
+      reads = rw (none, all) (number_starts file c.args.start);
+    }
 
-pub returns-then-at-file : goal.returns-then-at-file
-returns-then-at-file c =
-    let e : tail c.loop-i.i (drop (c.args.start + c.loop-i.i) c.args.file.now) ≡ short = at_drop_all (tail c.loop-i.i) c.args.file.now (c.args.start + c.loop-i.i) c.if-at-file.true in
-    record { moves = tt; told = sym (ap (told c.args.file.now c.args.start) (c.loop-i.invariant.3 ∙ ap (lift c.loop-i.value c.loop-i.scale c.loop-i.i) e)) }
-
-pub returns-then-misplaced : goal.returns-then-misplaced
-returns-then-misplaced c =
-    let e = step_bad c.loop-i.i c.args.file.now (c.args.start + c.loop-i.i) c.if-at-file.false (sym c.if-misplaced.ensures) in
-    record { moves = tt; told = sym (ap (told c.args.file.now c.args.start) (c.loop-i.invariant.3 ∙ ap (lift c.loop-i.value c.loop-i.scale c.loop-i.i) e)) }
+pub returns-then-misplaced-clause-told : goal.returns-then-misplaced-clause-told
+returns-then-misplaced-clause-told c =
+    let l = c.loop-i in
+    let i = l.i-iterator.count in
+    let b = c.in-Some.byte.now in
+    let s = c.in-Some.ensures.steps in
+    let u : unlawful i b ≡ true = ap (λ j. unlawful j b) (sym s.1) ∙ sym c.if-misplaced.ensures in
+    let e = ap (tail i) s.0.0 ∙ tail_bad i b _ u in
+    sym (ap (told c.args.file.now c.args.start) (l.invariant.reads ∙ ap (lift l.value l.scale i) e))
 
 sum_fits : (c : goal.After-from) → c.loop-i.value + c.from.result * c.loop-i.scale < 2 ^ 32
 sum_fits c =
-    let t = lawful_last c.loop-i.i (get_or c.args.file.now (c.args.start + c.loop-i.i) 0) (sym c.if-misplaced.ensures) in
-    bound_at c.loop-i.i c.loop-i.value c.from.result c.loop-i.scale c.loop-i.invariant.1 c.loop-i.invariant.0 c.loop-i.invariant.2 (omega arith) (λ z. omega (arith, t z))
+    let t = lawful_last c.in-Some.i c.in-Some.byte.now (sym c.if-misplaced.ensures) in
+    let s = c.in-Some.ensures.steps in
+    bound_at c.loop-i.i-iterator.count c.loop-i.value c.from.result c.loop-i.scale c.loop-i.invariant.scaled c.loop-i.invariant.few c.loop-i.invariant.small (omega arith) (λ z. omega (arith, t (omega arith)))
 
 pub overflow_mul-result : goal.overflow_mul-result
 overflow_mul-result c = omega (arith, sum_fits c)
@@ -33,17 +46,23 @@ overflow_add-result c = omega (arith, sum_fits c)
 
 pub returns-then-byte-lt-MORE : goal.returns-then-byte-lt-MORE
 returns-then-byte-lt-MORE c =
-    let e = step_last c.loop-i.i c.args.file.now (c.args.start + c.loop-i.i) c.if-at-file.false (sym c.if-misplaced.ensures) c.if-byte-lt-MORE.true in
-    let d = c.loop-i.invariant.3 ∙ ap (lift c.loop-i.value c.loop-i.scale c.loop-i.i) e in
-    let m = mul_comm c.loop-i.scale (get_or c.args.file.now (c.args.start + c.loop-i.i) 0) in
-    let q : c.args.start + c.loop-i.i + 1 ≡ c.args.start + (c.loop-i.i + 1) = omega arith in
-    let r = ap (told c.args.file.now c.args.start) d in
-    record { moves = (omega arith, omega arith); told = cc c.from.ensures }
+    let l = c.loop-i in
+    let i = l.i-iterator.count in
+    let b = c.in-Some.byte.now in
+    let s = c.in-Some.ensures.steps in
+    let u : unlawful i b ≡ false = ap (λ j. unlawful j b) (sym s.1) ∙ sym c.if-misplaced.ensures in
+    let e = ap (tail i) s.0.0 ∙ tail_last i b _ u c.if-byte-lt-MORE.true in
+    let here = number_ends c.args.file.now c.args.start l.value l.scale i b (l.invariant.reads ∙ ap (lift l.value l.scale i) e) in
+    let long = ap length s.0.0 in
+    record { moves = (omega arith, omega arith); told = rw (c.from.ensures, s.1) here }
 
-more_facts : (c : goal.After-from-in-loop-i) → (c.loop-i.i < 4) × (c.loop-i.value + c.from-in-loop-i.result * c.loop-i.scale < c.loop-i.scale * 128) × (c.loop-i.scale * 128 < 2 ^ 32) × (c.loop-i.scale * 128 ≡ 128 ^ (c.loop-i.i + 1))
+more_facts : (c : goal.After-from-in-loop-i) → (c.in-Some.i < 4) × (c.loop-i.value + c.from-in-loop-i.result * c.loop-i.scale < c.loop-i.scale * 128) × (c.loop-i.scale * 128 < 2 ^ 32) × (c.loop-i.scale * 128 ≡ 128 ^ (c.in-Some.i + 1))
 more_facts c =
-    let n = not_last c.loop-i.i (get_or c.args.file.now (c.args.start + c.loop-i.i) 0) (sym c.if-misplaced.ensures) c.if-byte-lt-MORE.false c.loop-i.invariant.0 in
-    let g = grows_at c.loop-i.i c.loop-i.value c.from-in-loop-i.result c.loop-i.scale c.loop-i.invariant.1 n c.loop-i.invariant.2 (omega (arith, c.type_inv.file (c.args.start + c.loop-i.i))) in
+    let s = c.in-Some.ensures.steps in
+    let b : c.in-Some.byte.now < 256 = search rules in
+    let n = not_last c.in-Some.i c.in-Some.byte.now (sym c.if-misplaced.ensures) c.if-byte-lt-MORE.false (omega arith) in
+    let p : c.loop-i.scale ≡ 128 ^ c.in-Some.i = rw s.1 c.loop-i.invariant.scaled in
+    let g = grows_at c.in-Some.i c.loop-i.value c.from-in-loop-i.result c.loop-i.scale p n c.loop-i.invariant.small (omega arith) in
     (n, g.0, g.1, g.2)
 
 pub overflow_mul-value : goal.overflow_mul-value
@@ -57,10 +76,28 @@ overflow_mul-scale c = omega (arith, more_facts c)
 
 pub loop-i-preserved : goal.loop-i-preserved
 loop-i-preserved c =
+    let l = c.loop-i in
+    let i = l.i-iterator.count in
+    let b = c.in-Some.byte.now in
+    let s = c.in-Some.ensures.steps in
     let f = more_facts c in
-    let s = c.args.file.now in
-    let j : ℕ = c.args.start + c.loop-i.i in
-    let e = step_more c.loop-i.i s j c.if-at-file.false (sym c.if-misplaced.ensures) c.if-byte-lt-MORE.false in
-    let d = c.loop-i.invariant.3 ∙ ap (lift c.loop-i.value c.loop-i.scale c.loop-i.i) e ∙ lift_more c.loop-i.value c.loop-i.scale c.loop-i.i (get_or s j 0) (tail (c.loop-i.i + 1) (drop (j + 1) s)) in
-    let q : c.args.start + (c.loop-i.i + 1) ≡ c.args.start + c.loop-i.i + 1 = omega arith in
-    (omega (arith, f), f.3, f.1, cc (d, q, c.from-in-loop-i.ensures))
+    let u : unlawful i b ≡ false = ap (λ j. unlawful j b) (sym s.1) ∙ sym c.if-misplaced.ensures in
+    let e = ap (tail i) s.0.0 ∙ tail_more i b _ u c.if-byte-lt-MORE.false in
+    let d = l.invariant.reads ∙ ap (lift l.value l.scale i) e ∙ lift_more l.value l.scale i b _ in
+    let long = ap length s.0.0 in
+    record {
+      few = omega arith;
+      to_take = omega arith;
+      scaled = rw (s.2, ← s.1) f.3;
+      small = f.1;
+      place = omega arith;
+      reads = rw (c.from-in-loop-i.ensures, s.2) d;
+    }
+
+pub returns-clause-told : goal.returns-clause-told
+returns-clause-told c =
+    let l = c.loop-i in
+    let i = l.i-iterator.count in
+    let none = c.in-None.ensures.steps.0 (omega arith) in
+    let e = at_drop_all (tail i) l.i-iterator.iter.iter.rest.now 0 (omega (arith, none)) in
+    sym (ap (told c.args.file.now c.args.start) (l.invariant.reads ∙ ap (lift l.value l.scale i) e))

@@ -1,19 +1,40 @@
-use Rattle.std.proofs.Common.{arith}
-use Rattle.numbers.proofs.Encoded.{groups_some}
-use Rattle.numbers.proofs.WritingSteps.{left_more, left_last}
+use Rattle.std.proofs.Common.{◌≡◌, ℕ, ◌+◌, ◌<◌, [], ◌∷◌, ◌++◌, length, arith}
+use Rattle.std.proofs.lemmas.List.{length-take, length-drop}
+use Rattle.numbers.specs.Number.{encode}
+use Rattle.numbers.proofs.Encoded.{encode-some}
+use Rattle.numbers.proofs.WritingSteps.{left_all, left_more, left_last, written}
 use Rattle.numbers.proofs.write_number.Goals as goal
 
-pub bounds-out-place : goal.bounds-out-place
-bounds-out-place c = omega (arith, c.loop-rest.invariant.1.ends, groups_some c.loop-rest.invariant.0 c.loop-rest.rest)
+pub loop-byte-init : goal.loop-byte-init
+loop-byte-init c = (4, left_all c.args.v _ c.ranges.v.fits)
 
-pub loop-rest-preserved : goal.loop-rest-preserved
-loop-rest-preserved c = left_more c.args.out.now c.args.at c.args.v c.loop-rest.out c.loop-rest.place c.loop-rest.rest c.loop-rest.invariant.0 c.loop-rest-test.true c.loop-rest.invariant.1
+pub loop-byte-preserved : goal.loop-byte-preserved
+loop-byte-preserved c =
+    let s = c.number_size-size.ensures.long in
+    let some = encode-some c.args.v in
+    let n : length c.loop-byte.byte-items + 1 ≡ length (encode c.args.v) = omega (arith, length-take {A = ℕ}, length-drop {A = ℕ}) in
+    left_more c.args.v c.loop-byte.byte-items n c.loop-byte.byte-index c.loop-byte.rest c.loop-byte.invariant.0 (omega arith) c.loop-byte.invariant.1
 
-pub bounds-out-place-2 : goal.bounds-out-place-2
-bounds-out-place-2 c = omega (arith, c.loop-rest.invariant.1.ends, groups_some c.loop-rest.invariant.0 c.loop-rest.rest)
+all_but_one : (c : goal.After-slice_known-in-loop-byte-1) → (length c.loop-byte.byte-items + 1 ≡ length (encode c.args.v)) × (length c.loop-byte.byte-items ≡ c.loop-byte.byte-index)
+all_but_one c =
+    let s = c.number_size-size.ensures.long in
+    let some = encode-some c.args.v in
+    (omega (arith, length-take {A = ℕ}, length-drop {A = ℕ}), omega arith)
 
-pub returns : goal.returns
-returns c =
-    let l = left_last c.args.out.now c.args.at c.args.v c.loop-rest.out c.loop-rest.place c.loop-rest.rest c.loop-rest.invariant.0 c.loop-rest-test.false c.loop-rest.invariant.1 in
-    let n = c.number_size-size.ensures.long in
-    record { wrote = record { fits = λ _. l; overflows = λ h. absurd (omega arith) }; size = n; few = c.number_size-size.ensures.few }
+last : (c : goal.After-slice_known-in-loop-byte-1) → (c.loop-byte.rest < 128) × (c.loop-byte.byte-items ++ (c.loop-byte.rest ∷ []) ≡ encode c.args.v)
+last c =
+    let n = all_but_one c in
+    let k = c.loop-byte.invariant.0 in
+    left_last c.args.v c.loop-byte.byte-items n.0 c.loop-byte.rest k (rw n.1 c.loop-byte.invariant.1)
+
+pub overflow_cast-out : goal.overflow_cast-out
+overflow_cast-out c = omega (arith, (last c).0)
+
+pub returns-clause-wrote : goal.returns-clause-wrote
+returns-clause-wrote c =
+    let n = all_but_one c in
+    let s = c.number_size-size.ensures.long in
+    record {
+      fits = λ h. written c.args.out.now c.args.at c.args.v c.loop-byte.byte-items c.loop-byte.rest _ _ (omega (arith, n)) (omega (arith, n)) h (last c).1;
+      overflows = λ h. absurd (omega arith);
+    }

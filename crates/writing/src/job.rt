@@ -10,7 +10,7 @@ ghost use Rattle.writing.specs.Calls.{Puts};
 use crate::checks::check_job;
 use crate::pen::Pen;
 use crate::whole::{Filed, write_whole};
-use formats::{BookKind, Job, OrderLists};
+use formats::{Job, OrderLists};
 use length::Numbered;
 use refusal::SheetFault;
 
@@ -19,16 +19,6 @@ use refusal::SheetFault;
 pub struct LawfulJob<'a, T: Numbered> {
     pub job: &'a Job<T>,
     pub ghost lawful: { file.job_check (job_fields T.Numbered.numbers job.now) ≡ Ok tt } by { Prim.hlevel props },
-}
-
-/// The kind of book that the lists are of.
-fn kind_of(order: &OrderLists) -> BookKind
-    ensures { result ≡ said.book_kind_of (order_fields order.now) }
-{
-    match order {
-        OrderLists::SequencePair { .. } => BookKind::SequencePair,
-        OrderLists::Slicing { .. } => BookKind::Slicing,
-    }
 }
 
 impl<'a, T: Numbered> LawfulJob<'a, T> {
@@ -44,8 +34,7 @@ impl<'a, T: Numbered> LawfulJob<'a, T> {
     pub fn entry_offset(&self, entry: usize) -> usize
         ensures { result ≡ said.entry_place (job_fields T.Numbered.numbers self.now.job.now) entry }
     {
-        let mut nothing = [0u8; 0];
-        let mut pen = Pen::new(&mut nothing);
+        let mut pen = Pen::new(&mut []);
         self.put_up_to(&mut pen, entry);
         pen.size()
     }
@@ -72,10 +61,10 @@ impl<'a, T: Numbered> LawfulJob<'a, T> {
         ensures few { pen.new.at ≤ 10000 }
     {
         let job = self.job;
-        pen.number(kind_of(&job.order).number());
+        pen.number(u32::from(job.order.kind()));
         pen.number(job.count as u32);
         self.put_order(pen);
-        pen.number(job.turn.number());
+        pen.number(u32::from(job.turn));
         pen.number(job.processes as u32);
         pen.columns(&job.widths, &job.heights);
         pen.number(job.entries.len() as u32);

@@ -9,12 +9,9 @@ ghost use Rattle.formats.specs.Writing.{Written};
 use crate::checks::check_placement;
 use crate::pen::Pen;
 use crate::whole::{Filed, size_of, write_whole};
-use formats::Placement;
+use formats::{PLACEMENT_MARK, Placement};
 use length::Numbered;
 use refusal::SheetFault;
-
-/// The number that marks a placement file.
-const MARK: u32 = 0;
 
 /// A lawful placement: one that has a file.
 #[derive(Drop)]
@@ -45,7 +42,7 @@ impl<'a, T: Numbered> Filed for LawfulPlacement<'a, T> {
 
     fn put(&self, pen: &mut Pen) {
         let placement = self.placement;
-        pen.number(MARK);
+        pen.number(PLACEMENT_MARK);
         pen.number(placement.count as u32);
         pen.number(placement.processes as u32);
         pen.length(placement.half_span);

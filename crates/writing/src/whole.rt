@@ -22,8 +22,7 @@ pub(crate) trait Filed {
 pub(crate) fn size_of<F: Filed>(file: &F) -> usize
     ensures { result ≡ length (encode_all (F.numbers file.now)) }
 {
-    let mut nothing = [0u8; 0];
-    let mut pen = Pen::new(&mut nothing);
+    let mut pen = Pen::new(&mut []);
     file.put(&mut pen);
     pen.size()
 }

@@ -2,7 +2,7 @@
 use Rattle.std.proofs.Common.{◌≡◌, IsErrAnd, Err, Result, MatchResult}
 use Rattle.refusal.specs.declared.fault.FieldFault.{FieldFault}
 use Rattle.reading.specs.declared.error.ReadError.{ReadError}
-use Rattle.reading.specs.declared.error.ReadError.TheVariants.{Refused, Memory}
+use Rattle.reading.specs.declared.error.ReadError.TheVariants.{Refused}
 use Rattle.reading.specs.Calls.{Fails}
 use Rattle.book.proofs.Exits.{exit_with}
 
@@ -10,7 +10,3 @@ module _ {A B : Type 0} (P : B → Type 0) (whole : Result A FieldFault) (r : Re
   -- the fault of a part is the fault of the whole
   pub refused_by : (f : FieldFault) → IsErrAnd r (λ e. e ≡ Refused f) → whole ≡ Err f → MatchResult r P (Fails whole)
   refused_by f out is = exit_with P (Fails whole) r (Refused f) out is
-
-  -- want of memory is none of the file's faults
-  pub no_memory : IsErrAnd r (λ e. e ≡ Memory) → MatchResult r P (Fails whole)
-  no_memory out = exit_with P (Fails whole) r Memory out tt

@@ -1,5 +1,5 @@
 -- One turn of a loop that reads: what is left to read makes the whole.
-use Rattle.std.proofs.Common.{◌≡◌, ℕ, suc, ◌+◌, ◌-◌, ◌<◌, ◌≤◌, Bool, List, [], ◌∷◌, ◌++◌, map, length, Ok, Err, sym, ap, ◌∙◌, subst, arith, length-append}
+use Rattle.std.proofs.Common.{◌≡◌, ℕ, suc, ◌+◌, ◌-◌, ◌<◌, Bool, List, [], ◌∷◌, ◌++◌, map, length, Ok, Err, sym, ap, ◌∙◌, subst, arith, length-append}
 use Rattle.std.proofs.lemmas.List.{map-append}
 use Rattle.refusal.specs.declared.fault.FieldFault.{FieldFault}
 use Rattle.refusal.specs.declared.fault.Side.{Side}
@@ -9,15 +9,6 @@ use Rattle.formats.specs.Reading.{Reading, and_then, field, list, entry, entries
 
 pub one_left : (size i : ℕ) → i < size → size - i ≡ suc (size - (i + 1))
 one_left size i h = omega arith
-
-pub none_left : (size i : ℕ) → size ≤ i → size - i ≡ 0
-none_left size i h = omega arith
-
--- before the first turn all is left
-pub all_left : {A B : Type 0} (read : ℕ → B → A) (size : ℕ) {none some : B} → some ≡ none → read size none ≡ read (size - 0) some
-all_left {A} {B} read size {none} {some} e =
-    let whole : size ≡ size - 0 = omega arith in
-    ap (λ (k : ℕ). read k none) whole ∙ ap (read (size - 0)) (sym e)
 
 pub then_ok : {A B : Type 0} (r : Reading A) (go : A → ℕ → Reading B) (a : A) (q : ℕ) → r ≡ Ok (a, q) → and_then r go ≡ go a q
 then_ok {A} {B} r go a q e = ap (λ (x : Reading A). and_then x go) e
@@ -39,9 +30,6 @@ module _ (rule : List ℕ → ℕ → Bool) (told : ℕ → ℕ → FieldFault) 
       ap (λ (k : ℕ). list rule told k before file p) (one_left size i h)
       ∙ then_err here (λ w r. list rule told (size - (i + 1)) (before ++ (w ∷ [])) file r) f e
 
-  pub list_done : size ≤ i → list rule told (size - i) before file p ≡ Ok (before, p)
-  list_done h = ap (λ (k : ℕ). list rule told k before file p) (none_left size i h)
-
 module _ (n size i : ℕ) (before : List Entry) (file : List ℕ) (p : ℕ) where
   pub entries_more : (e : Entry) (q : ℕ) → i < size → entry n before file p ≡ Ok (e, q) → entries n (size - i) before file p ≡ entries n (size - (i + 1)) (before ++ (e ∷ [])) file q
   entries_more e q h is =
@@ -52,9 +40,6 @@ module _ (n size i : ℕ) (before : List Entry) (file : List ℕ) (p : ℕ) wher
   entries_fail f h is =
       ap (λ (k : ℕ). entries n k before file p) (one_left size i h)
       ∙ then_err (entry n before file p) (λ w r. entries n (size - (i + 1)) (before ++ (w ∷ [])) file r) f is
-
-  pub entries_done : size ≤ i → entries n (size - i) before file p ≡ Ok (before, p)
-  entries_done h = ap (λ (k : ℕ). entries n k before file p) (none_left size i h)
 
 -- what a part of the file read as, said of an equal list before it and of the file itself
 pub re_read : {A B : Type 0} (read : B → List ℕ → A) {before before' : B} {file file' : List ℕ} {r : A} → before ≡ before' → file ≡ file' → read before file ≡ r → read before' file' ≡ r
@@ -103,6 +88,3 @@ module _ (lawful : ℕ → Bool) (k size cell : ℕ) (us vs : List (List ℕ)) (
 
     pub columns_more : (v : List ℕ) (r : ℕ) → one_length lawful k cell Height file q ≡ Ok (v, r) → columns lawful k (size - cell) now_read file p ≡ columns lawful k (size - (cell + 1)) (both_columns (us ++ (u ∷ [])) (vs ++ (v ∷ []))) file r
     columns_more v r d = after_first ∙ then_ok (height q) (λ w i. later u w i) v r (sym (by_cell Height q) ∙ d)
-
-pub columns_done : (lawful : ℕ → Bool) (k size cell : ℕ) (c : Columns) (file : List ℕ) (p : ℕ) → size ≤ cell → columns lawful k (size - cell) c file p ≡ Ok (c, p)
-columns_done lawful k size cell c file p h = ap (λ (m : ℕ). columns lawful k m c file p) (none_left size cell h)

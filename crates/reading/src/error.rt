@@ -5,6 +5,7 @@ ghost use Rattle.reading.specs.declared.error.ReadError.{ReadError};
 
 use refusal::{ByteFault, FieldFault};
 use std::alloc::{AllocError, AllocFailed};
+use std::error::Error;
 use std::fmt;
 
 /// A file is refused, or there was no memory to hold what it says.
@@ -45,6 +46,8 @@ impl<T: Drop> From<AllocFailed<T>> for ReadError {
         ReadError::Memory
     }
 }
+
+impl Error for ReadError {}
 
 impl fmt::Display for ReadError {
     fn fmt<W: fmt::Write>(&self, f: &mut fmt::Formatter<W>) -> fmt::Result {

@@ -13,6 +13,7 @@ use length::{Numbered, PerProcess, Plain};
 use std::alloc::Global;
 
 /// A job with one number a length, or with one for each of three processes.
+// One enum for jobs and placements would need two parameters and two aliases, and be no shorter.
 #[derive(Drop)]
 pub enum AnyJob {
     One(Job<Plain>),
@@ -32,8 +33,7 @@ impl<'a> Reader<'a> {
     /// The fields before the sizes.
     fn head(&mut self, heap: Global) -> Result<Head, ReadError>
         ensures within { IfOk result (λ h. (h.processes ≡ 1) ⊎ (h.processes ≡ 3)) }
-        ensures same { self.new.bytes.now ≡ self.old.bytes.now }
-        ensures told { TookAs head_of (file.head self.old.bytes.now self.old.at) result self.new.at }
+        ensures told { TookAs head_of file.head self.old result self.new }
     {
         let kind = self.book_kind()?;
         let count = self.count()?;
@@ -50,9 +50,8 @@ impl<'a> Reader<'a> {
 
     /// The sizes and the group entries.
     fn body<T: Numbered>(&mut self, heap: Global, head: Head) -> Result<Job<T>, ReadError>
-        requires { head.processes ≡ T.Length.count }
-        ensures same { self.new.bytes.now ≡ self.old.bytes.now }
-        ensures told { TookAs (job_fields T.Numbered.numbers) (file.body (head_of head) self.old.bytes.now self.old.at) result self.new.at }
+        requires { head.processes ≡ T.NUMBERS }
+        ensures { TookAs (job_fields T.Numbered.numbers) (file.body (head_of head)) self.old result self.new }
     {
         let Head {
             count,
@@ -75,14 +74,16 @@ impl<'a> Reader<'a> {
         })
     }
 
-    /// The sizes and the group entries, and nothing behind them.
-    fn last_part<T: Numbered>(mut self, heap: Global, head: Head) -> Result<Job<T>, ReadError>
-        requires { head.processes ≡ T.Length.count }
-        ensures { MatchResult result (λ j. file.at_end self.entry.bytes.now (file.body (head_of head) self.entry.bytes.now self.entry.at) ≡ Ok (job_fields T.Numbered.numbers j)) (Fails (file.at_end self.entry.bytes.now (file.body (head_of head) self.entry.bytes.now self.entry.at))) }
+    /// The same, with as many numbers a length as the head says.
+    fn any_body(&mut self, heap: Global, head: Head) -> Result<AnyJob, ReadError>
+        requires { (head.processes ≡ 1) ⊎ (head.processes ≡ 3) }
+        ensures { TookAs any_job (file.body (head_of head)) self.old result self.new }
     {
-        let job = self.body(heap, head)?;
-        self.end()?;
-        Ok(job)
+        if head.processes == 1 {
+            Ok(AnyJob::One(self.body(heap, head)?))
+        } else {
+            Ok(AnyJob::Three(self.body(heap, head)?))
+        }
     }
 }
 
@@ -92,9 +93,7 @@ pub fn read_job(heap: Global, bytes: &[u8]) -> Result<AnyJob, ReadError>
 {
     let mut reader = Reader::new(bytes);
     let head = reader.head(heap)?;
-    if head.processes == 1 {
-        Ok(AnyJob::One(reader.last_part(heap, head)?))
-    } else {
-        Ok(AnyJob::Three(reader.last_part(heap, head)?))
-    }
+    let job = reader.any_body(heap, head)?;
+    reader.end()?;
+    Ok(job)
 }

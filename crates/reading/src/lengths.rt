@@ -21,6 +21,8 @@ pub(crate) enum Allowed {
 }
 
 /// Two lengths of each cell: widths and heights, or left edges and bottoms.
+///
+/// Two lists, and no list of pairs: a placing takes each by itself, and a list of the wrong length is refused by its number.
 #[derive(Drop)]
 pub(crate) struct Columns<T> {
     pub(crate) firsts: Vec<T>,
@@ -46,8 +48,7 @@ impl<'a> Reader<'a> {
         cell: usize,
         side: Side,
     ) -> Result<u32, FieldFault>
-        ensures same { self.new.bytes.now ≡ self.old.bytes.now }
-        ensures told { Took (file.length_number_at (rule_of allowed) cell side self.old.bytes.now self.old.at) result self.new.at }
+        ensures { Took (file.length_number_at (rule_of allowed) cell side) self.old result self.new }
     {
         let at = self.at;
         let number = self.number()?;
@@ -65,12 +66,11 @@ impl<'a> Reader<'a> {
         cell: usize,
         side: Side,
     ) -> Result<T, FieldFault>
-        ensures same { self.new.bytes.now ≡ self.old.bytes.now }
-        ensures told { TookBy T.Numbered.numbers (file.one_length (rule_of allowed) T.Length.count cell side self.old.bytes.now self.old.at) result self.new.at }
+        ensures { TookBy T.Numbered.numbers (file.one_length (rule_of allowed) T.NUMBERS cell side) self.old result self.new }
     {
         let mut list = [0; MOST_NUMBERS];
-        for i in 0..T::count() {
-            list[i] = self.length_number(allowed, cell, side)?;
+        for number in list[..T::NUMBERS].iter_mut() {
+            *number = self.length_number(allowed, cell, side)?;
         }
         Ok(T::from_numbers(list))
     }
@@ -82,8 +82,7 @@ impl<'a> Reader<'a> {
         allowed: Allowed,
         n: usize,
     ) -> Result<Columns<T>, ReadError>
-        ensures same { self.new.bytes.now ≡ self.old.bytes.now }
-        ensures told { TookAs (columns_of T.Numbered.numbers) (file.columns (rule_of allowed) T.Length.count n file.no_columns self.old.bytes.now self.old.at) result self.new.at }
+        ensures { TookAs (columns_of T.Numbered.numbers) (file.columns (rule_of allowed) T.NUMBERS n file.no_columns) self.old result self.new }
     {
         let mut firsts = Vec::new(heap);
         let mut seconds = Vec::new(heap);

@@ -20,8 +20,7 @@ impl<'a> Reader<'a> {
         list: usize,
         before: &[usize],
     ) -> Result<usize, FieldFault>
-        ensures same { self.new.bytes.now ≡ self.old.bytes.now }
-        ensures told { Took (file.order_number_at kind n list before.now self.old.bytes.now self.old.at) result self.new.at }
+        ensures { Took (file.order_number_at kind n list before.now) self.old result self.new }
     {
         let at = self.at;
         let number = self.number()? as usize;
@@ -45,8 +44,7 @@ impl<'a> Reader<'a> {
         list: usize,
         size: usize,
     ) -> Result<Vec<usize>, ReadError>
-        ensures same { self.new.bytes.now ≡ self.old.bytes.now }
-        ensures told { TookAs vec_items (file.order_list_at kind n list size self.old.bytes.now self.old.at) result self.new.at }
+        ensures { TookAs vec_items (file.order_list_at kind n list size) self.old result self.new }
     {
         let mut numbers = Vec::new(heap);
         for _ in 0..size {
@@ -65,8 +63,7 @@ impl<'a> Reader<'a> {
     ) -> Result<OrderLists, ReadError>
         requires some { 1 ≤ n }
         requires few { n ≤ 64 }
-        ensures same { self.new.bytes.now ≡ self.old.bytes.now }
-        ensures told { TookAs order_fields (file.order kind n self.old.bytes.now self.old.at) result self.new.at }
+        ensures { TookAs order_fields (file.order kind n) self.old result self.new }
     {
         match kind {
             BookKind::SequencePair => {
@@ -88,9 +85,9 @@ impl<'a> Reader<'a> {
         n: usize,
         count: u32,
     ) -> Result<Vec<Entry>, ReadError>
-        ensures same { self.new.bytes.now ≡ self.old.bytes.now }
-        ensures told { TookAs vec_items (file.entries n count [] self.old.bytes.now self.old.at) result self.new.at }
+        ensures { TookAs vec_items (file.entries n count []) self.old result self.new }
     {
+        // no text in common with `order_list`: it would take a closure over the reader and the items so far, and be longer
         let mut entries = Vec::new(heap);
         for _ in 0..count {
             let entry = self.entry(n, &entries)?;

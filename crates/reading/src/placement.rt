@@ -31,8 +31,7 @@ impl<'a> Reader<'a> {
     /// The fields before the lengths.
     fn placement_head(&mut self) -> Result<PlacementHead, FieldFault>
         ensures within { IfOk result (λ h. (h.processes ≡ 1) ⊎ (h.processes ≡ 3)) }
-        ensures same { self.new.bytes.now ≡ self.old.bytes.now }
-        ensures told { TookBy placement_head_of (file.placement_head_of self.old.bytes.now self.old.at) result self.new.at }
+        ensures told { TookBy placement_head_of file.placement_head_of self.old result self.new }
     {
         let _mark = self.mark()?;
         let count = self.count()?;
@@ -46,9 +45,8 @@ impl<'a> Reader<'a> {
         heap: Global,
         head: PlacementHead,
     ) -> Result<Placement<T>, ReadError>
-        requires { head.processes ≡ T.Length.count }
-        ensures same { self.new.bytes.now ≡ self.old.bytes.now }
-        ensures told { TookAs (placement_fields T.Numbered.numbers) (file.placement_body_at (placement_head_of head) self.old.bytes.now self.old.at) result self.new.at }
+        requires { head.processes ≡ T.NUMBERS }
+        ensures { TookAs (placement_fields T.Numbered.numbers) (file.placement_body_at (placement_head_of head)) self.old result self.new }
     {
         let half_span = self.length(Allowed::Any, 0, Side::Width)?;
         let depth = self.length(Allowed::Any, 0, Side::Height)?;
@@ -64,18 +62,20 @@ impl<'a> Reader<'a> {
         })
     }
 
-    /// The lengths, and nothing behind them.
-    fn last_lengths<T: Numbered>(
-        mut self,
+    /// The same, with as many numbers a length as the head says.
+    fn any_placement_body(
+        &mut self,
         heap: Global,
         head: PlacementHead,
-    ) -> Result<Placement<T>, ReadError>
-        requires { head.processes ≡ T.Length.count }
-        ensures { MatchResult result (λ p. file.at_end self.entry.bytes.now (file.placement_body_at (placement_head_of head) self.entry.bytes.now self.entry.at) ≡ Ok (placement_fields T.Numbered.numbers p)) (Fails (file.at_end self.entry.bytes.now (file.placement_body_at (placement_head_of head) self.entry.bytes.now self.entry.at))) }
+    ) -> Result<AnyPlacement, ReadError>
+        requires { (head.processes ≡ 1) ⊎ (head.processes ≡ 3) }
+        ensures { TookAs any_placement (file.placement_body_at (placement_head_of head)) self.old result self.new }
     {
-        let placement = self.placement_body(heap, head)?;
-        self.end()?;
-        Ok(placement)
+        if head.processes == 1 {
+            Ok(AnyPlacement::One(self.placement_body(heap, head)?))
+        } else {
+            Ok(AnyPlacement::Three(self.placement_body(heap, head)?))
+        }
     }
 }
 
@@ -85,9 +85,7 @@ pub fn read_placement(heap: Global, bytes: &[u8]) -> Result<AnyPlacement, ReadEr
 {
     let mut reader = Reader::new(bytes);
     let head = reader.placement_head()?;
-    if head.processes == 1 {
-        Ok(AnyPlacement::One(reader.last_lengths(heap, head)?))
-    } else {
-        Ok(AnyPlacement::Three(reader.last_lengths(heap, head)?))
-    }
+    let placement = reader.any_placement_body(heap, head)?;
+    reader.end()?;
+    Ok(placement)
 }

@@ -1,7 +1,7 @@
 //! The reader: the bytes of a file that somebody else holds, and how far they have been read.
-ghost use Rattle.std.specs.Prelude.{◌≡◌, Ok, Err, MatchResult};
-ghost use Rattle.numbers.specs.Calls.{number_at};
+ghost use Rattle.std.specs.Prelude.{◌≡◌};
 ghost use Rattle.formats.specs.Reading.{ended};
+ghost use Rattle.reading.specs.Calls.{TookNumber};
 
 use numbers::read_number;
 use refusal::{ByteFault, FieldFault};
@@ -24,8 +24,7 @@ impl<'a> Reader<'a> {
 
     /// The next number; the reader is then behind it. Where there is none, it stays where it is.
     pub fn number(&mut self) -> Result<u32, ByteFault>
-        ensures same { self.new.bytes.now ≡ self.old.bytes.now }
-        ensures told { MatchResult result (λ v. number_at self.old.bytes.now self.old.at ≡ Ok (v, self.new.at)) (λ f. (number_at self.old.bytes.now self.old.at ≡ Err f) × (self.new.at ≡ self.old.at)) }
+        ensures { TookNumber self.old result self.new }
     {
         let (value, next) = read_number(self.bytes, self.at)?;
         self.at = next;

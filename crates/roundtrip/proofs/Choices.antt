@@ -43,7 +43,7 @@ module _ (lawful : ℕ → Bool) where
     where
       go : (b : Bool) → cond b (Some v) None ≡ Some a → (b ≡ true) × (v ≡ a)
       go true e = (refl, cc)
-      go false e = absurd (let z : ◌≡◌ {A = ℕ} 0 1 = cc in omega arith)
+      go false e = absurd cc
 
   pub exact_allowed : (file : List ℕ) → Exact file (choice (only_if lawful) file) (Of (λ v. (lawful v ≡ true) × Storable v) (λ v. v ∷ []))
   exact_allowed file =

@@ -33,7 +33,7 @@ exact_field file lawful told =
 exact_chosen : {A : Type 0} {file : List ℕ} (p : ℕ) (o : Option A) → Exact file (λ q. chosen p q o) (Of (λ a. o ≡ Some a) (λ _. []))
 exact_chosen p (Some x) = exact_good (λ a w. cc) (λ a w. cc) (exact_ok x)
 exact_chosen p None = record {
-  back = λ p a ns q w s. absurd (let t = w.0 in let z : ◌≡◌ {A = ℕ} 0 1 = cc in omega arith);
+  back = λ p a ns q w s. absurd (let t = w.0 in cc);
   only = λ p a q b h r. absurd (never r);
 }
 

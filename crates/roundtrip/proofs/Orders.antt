@@ -44,7 +44,7 @@ module _ (file : List ℕ) (n : ℕ) where
     next = record { value = b; front = b; rest = []; first = (w.0.1.1, refl); next = (refl, refl); joined = sym (append-nil b) };
     joined = w.1;
   }
-  two_here (expression e) ns w = absurd (let k = w.0.0 in let z : ◌≡◌ {A = ℕ} 0 1 = cc in omega arith)
+  two_here (expression e) ns w = absurd (let k = w.0.0 in cc)
 
   abbrev One : OrderFields → List ℕ → Type 0
   One = Then (Of (Fitting Slicing n 1 (2 * n - 1)) (λ us. us)) (λ e. Of (λ o. o ≡ expression e) (λ _. []))
@@ -54,7 +54,7 @@ module _ (file : List ℕ) (n : ℕ) where
       subst (λ z. Spelled Slicing z ns) (sym w.next.0) ((refl, w.first.0), w.joined ∙ ap₂ ◌++◌ w.first.1 w.next.1 ∙ append-nil w.value)
 
   one_here : (o : OrderFields) (ns : List ℕ) → Spelled Slicing o ns → One o ns
-  one_here (rows a b) ns w = absurd (let k = w.0.0 in let z : ◌≡◌ {A = ℕ} 0 1 = cc in omega arith)
+  one_here (rows a b) ns w = absurd (let k = w.0.0 in cc)
   one_here (expression e) ns w = record { value = e; front = e; rest = []; first = (w.0.1, refl); next = (refl, refl); joined = w.1 ∙ sym (append-nil e) }
 
   pub exact_order : (kind : BookKind) → Exact file (order kind n file) (Spelled kind)

@@ -2,21 +2,14 @@ use Rattle.std.proofs.Common.{ℕ, ◌+◌, ◌-◌, List, [], ◌∷◌, ◌++�
 use Rattle.refusal.specs.declared.fault.Side.TheVariants.{Width, Height}
 use Rattle.formats.specs.Reading.{Columns, columns, one_length}
 use Rattle.reading.specs.Held.{rule_of}
-use Rattle.reading.proofs.Turns.{all_left, both_columns, one_pushed, one_longer, first_fails, second_fails, columns_more, columns_done, re_read}
+use Rattle.reading.proofs.Turns.{both_columns, one_pushed, one_longer, first_fails, second_fails, columns_more, re_read}
 use Rattle.reading.proofs.Exits.{refused_by}
 use Rattle.reading.proofs.reader.Reader.columns.Goals as goal
-
-pub loop-cell-init : goal.loop-cell-init
-loop-cell-init g c =
-    let numbers = g.T.Numbered.numbers in
-    let us = ap (map numbers) c.new-firsts.ensures.items in
-    let vs = ap (map numbers) c.new-seconds.ensures.items in
-    (refl, ap length us, all_left (λ (k : ℕ) (d : Columns). columns (rule_of c.args.allowed) g.T.Length.count k d c.args.self.now.bytes.now c.args.self.now.at) c.args.n (ap (λ (x : List (List ℕ)). both_columns x (map numbers (vec_items c.new-seconds.result))) us ∙ ap (both_columns []) vs))
 
 pub returns-in_err-first : goal.returns-in_err-first
 returns-in_err-first g c =
     let rule = rule_of c.args.allowed in
-    let k = g.T.Length.count in
+    let k = g.T.Length.NUMBERS in
     let told = c.in_err-first.ensures in
     let here = re_read (λ (_ : ℕ) (s : List ℕ). one_length rule k c.loop-cell.cell Width s c.loop-cell.self.at) {before = 0} refl c.loop-cell.invariant.0 told.told in
     record {
@@ -27,7 +20,7 @@ returns-in_err-first g c =
 pub returns-in_err-second : goal.returns-in_err-second
 returns-in_err-second g c =
     let rule = rule_of c.args.allowed in
-    let k = g.T.Length.count in
+    let k = g.T.Length.NUMBERS in
     let first = c.in_ok-first.ensures in
     let told = c.in_err-second.ensures in
     let same = first.same ∙ c.loop-cell.invariant.0 in
@@ -41,7 +34,7 @@ returns-in_err-second g c =
 pub loop-cell-preserved : goal.loop-cell-preserved
 loop-cell-preserved g c =
     let rule = rule_of c.args.allowed in
-    let k = g.T.Length.count in
+    let k = g.T.Length.NUMBERS in
     let numbers = g.T.Numbered.numbers in
     let cell = c.loop-cell.cell in
     let us = map numbers (vec_items c.loop-cell.firsts) in
@@ -62,9 +55,3 @@ loop-cell-preserved g c =
           ∙ columns_more rule k c.args.n cell us vs file c.loop-cell.self.at c.loop-cell.invariant.1 (numbers u) c.length.new.self.at c.loop-cell-test.true wide (numbers v) c.length-in-loop-cell.new.self.at high
           ∙ ap (λ (d : Columns). columns rule k (c.args.n - (cell + 1)) d file c.length-in-loop-cell.new.self.at) (ap (λ (x : List (List ℕ)). both_columns x (vs ++ (numbers v ∷ []))) (sym firsts) ∙ ap (both_columns _) (sym seconds)),
     )
-
-pub returns : goal.returns
-returns g c = record {
-  same = c.loop-cell.invariant.0;
-  told = c.loop-cell.invariant.2 ∙ columns_done (rule_of c.args.allowed) g.T.Length.count c.args.n c.loop-cell.cell (both_columns (map g.T.Numbered.numbers (vec_items c.loop-cell.firsts)) (map g.T.Numbered.numbers (vec_items c.loop-cell.seconds))) c.args.self.now.bytes.now c.loop-cell.self.at c.loop-cell-test.false;
-}

@@ -1,13 +1,9 @@
-use Rattle.std.proofs.Common.{ℕ, ◌+◌, ◌-◌, List, vec_items, sym, refl, ap, ◌∙◌}
+use Rattle.std.proofs.Common.{ℕ, ◌+◌, ◌-◌, List, vec_items, sym, ap, ◌∙◌}
 use Rattle.formats.specs.declared.fields.Entry.{Entry}
 use Rattle.formats.specs.Reading.{entry, entries}
-use Rattle.reading.proofs.Turns.{all_left, entries_more, entries_fail, entries_done, re_read}
-use Rattle.reading.proofs.Exits.{refused_by, no_memory}
+use Rattle.reading.proofs.Turns.{entries_more, entries_fail, re_read}
+use Rattle.reading.proofs.Exits.{refused_by}
 use Rattle.reading.proofs.reader.Reader.entries.Goals as goal
-
-pub loop-init : goal.loop-init
-loop-init c =
-    (refl, all_left (λ (k : ℕ) (es : List Entry). entries c.args.n k es c.args.self.now.bytes.now c.args.self.now.at) c.args.count c.new-entries.ensures.items)
 
 pub returns-in_err-entry : goal.returns-in_err-entry
 returns-in_err-entry c =
@@ -18,12 +14,6 @@ returns-in_err-entry c =
       same = told.same ∙ c.loop.invariant.0;
       told = refused_by _ _ _ _ c.from_residual.ensures.1 (c.loop.invariant.1 ∙ entries_fail n c.args.count c.loop.counter (vec_items c.loop.entries) c.args.self.now.bytes.now c.loop.self.at _ c.loop-test.true here);
     }
-
-pub returns-in_err-push : goal.returns-in_err-push
-returns-in_err-push c = record {
-  same = c.in_ok-entry.ensures.same ∙ c.loop.invariant.0;
-  told = no_memory _ _ _ c.from_residual-in_err-push.ensures.1;
-}
 
 pub loop-preserved : goal.loop-preserved
 loop-preserved c =
@@ -36,9 +26,3 @@ loop-preserved c =
           ∙ entries_more n c.args.count c.loop.counter (vec_items c.loop.entries) file c.loop.self.at c.in_ok-entry.entry _ c.loop-test.true here
           ∙ ap (λ (xs : List Entry). entries n (c.args.count - (c.loop.counter + 1)) xs file c.entry.new.self.at) (sym c.in_ok-push.ensures.items),
     )
-
-pub returns : goal.returns
-returns c = record {
-  same = c.loop.invariant.0;
-  told = c.loop.invariant.1 ∙ entries_done c.args.n c.args.count c.loop.counter (vec_items c.loop.entries) c.args.self.now.bytes.now c.loop.self.at c.loop-test.false;
-}

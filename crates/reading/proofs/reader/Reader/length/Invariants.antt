@@ -4,8 +4,12 @@ use Rattle.formats.specs.Reading.{list, alone, not_a_size, one_length}
 use Rattle.reading.specs.Held.{rule_of}
 use Rattle.reading.proofs.reader.Reader.length.Given as goal
 
-abbrev pub invariant-loop-i : goal.invariant-loop-i
-invariant-loop-i g l =
-    (l.self.bytes.now ≡ l.initial.self.bytes.now)
-    × (length l.list ≡ 3)
-    × (one_length (rule_of l.allowed) g.T.Length.count l.cell l.side l.initial.self.bytes.now l.initial.self.at ≡ list (alone (rule_of l.allowed)) (not_a_size l.cell l.side) (g.T.Length.count - l.i) (take l.i l.list) l.initial.self.bytes.now l.self.at)
+abbrev pub invariant-loop-number : goal.invariant-loop-number
+invariant-loop-number g l =
+    let rule = rule_of l.allowed in
+    let file = l.initial.self.bytes.now in
+    let numbers = g.T.Length.NUMBERS in record {
+      same : l.self.bytes.now ≡ file;
+      long : length l.number-items ≡ numbers;
+      left : one_length rule numbers l.cell l.side file l.initial.self.at ≡ list (alone rule) (not_a_size l.cell l.side) (numbers - l.number-index) (take l.number-index l.number-items) file l.self.at;
+    }

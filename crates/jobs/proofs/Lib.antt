@@ -1,5 +1,4 @@
 pub mod Answered
-pub mod Entries
 pub mod Files
 pub mod InOrder
 pub mod Lawful

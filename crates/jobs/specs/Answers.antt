@@ -12,6 +12,7 @@ use Rattle.sheet.specs.declared.steps.Answer.TheVariants as answer
 use Rattle.sheet.specs.declared.steps.Coordinates.{Coordinates}
 use Rattle.sheet.specs.Runs.{WholeRun, IsFilled}
 use Rattle.formats.specs.declared.fields.Entry.{Entry}
+use Rattle.formats.specs.declared.job.Job.{Job}
 use Rattle.formats.specs.Choices.{exchanges}
 use Rattle.formats.specs.Files.{JobFields, PlacementFields, placement_bytes}
 use Rattle.formats.specs.Held.{job_fields}
@@ -68,6 +69,10 @@ pub record CameOn {V : Type 0} (k : Kind V) (numbers : V → List ℕ) (o : Orde
   pub filled : All (IsFilled o.count) answers
   pub in_order : InOrder j.entries answers
   pub tells : out ≡ told numbers j 0 answers
+
+-- the same of a job in memory
+abbrev pub CameBy : {V : Type 0} → Kind V → (V → List ℕ) → Order → Job V → List ℕ → Type 0
+CameBy k numbers o j out = CameOn k numbers o (vec_items j.widths) (vec_items j.heights) (job_fields numbers j) out
 
 -- What a job comes to, where k is its kind of length: its sheet is made from the order that its lists mean, turned.
 pub record Comes {V : Type 0} (k : Kind V) (numbers : V → List ℕ) (j : JobFields) (out : List ℕ) : Type 0 where

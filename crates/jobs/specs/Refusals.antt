@@ -1,5 +1,5 @@
 -- The file of a refusal, and where in a job's file a fault of its sheet is told.
-use Rattle.std.specs.Prelude.{ℕ, ◌+◌, min, cond, List, [], ◌∷◌, length, nat_lt}
+use Rattle.std.specs.Prelude.{ℕ, min, cond, List, [], ◌∷◌, length, position, unwrap_or, nat_lt}
 use Rattle.numbers.specs.Number.{encode_all}
 use Rattle.refusal.specs.declared.fault.SheetFault.{SheetFault}
 use Rattle.refusal.specs.declared.fault.SheetFault.TheVariants as sheet
@@ -22,8 +22,7 @@ refusal_bytes r = encode_all (refusal_numbers r)
 
 -- the index of the first entry that has the cell; how many there are, where none has
 abbrev pub entry_with_cell : ℕ → List Entry → ℕ
-entry_with_cell c [] = 0
-entry_with_cell c (e ∷ es) = cond (names e c) 0 (entry_with_cell c es + 1)
+entry_with_cell c es = unwrap_or (position (λ e. names e c) es) (length es)
 
 -- where a fault of the placing is told: at the entry of its cell (a lawful job's placing has no other faults)
 abbrev pub place_of_placing : JobFields → SheetFault → ℕ

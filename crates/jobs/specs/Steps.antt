@@ -1,5 +1,5 @@
 -- What a job asks of its sheet: an edit for each group entry, in order, and then a placing.
-use Rattle.std.specs.Prelude.{◌≡◌, ℕ, cond, List, [], ◌∷◌, ◌++◌, map, ◌==◌}
+use Rattle.std.specs.Prelude.{◌≡◌, ℕ, cond, List, [], ◌∷◌, ◌++◌, map, vec_items, ◌==◌}
 use Rattle.std.specs.Borrow.{Bor}
 use Rattle.book.specs.Order.{Order}
 use Rattle.book.specs.Rows.{Rows}
@@ -10,6 +10,7 @@ use Rattle.sheet.specs.declared.steps.Step.TheVariants as step
 use Rattle.formats.specs.declared.fields.Entry.{Entry}
 use Rattle.formats.specs.declared.fields.Turn.{Turn}
 use Rattle.formats.specs.declared.fields.Turn.TheVariants.{AsItIs, Transposed, Flipped, TransposedFlipped}
+use Rattle.formats.specs.declared.job.Job.{Job}
 use Rattle.formats.specs.Choices.{exchanges}
 use Rattle.formats.specs.Files.{OrderFields, rows, expression}
 
@@ -42,3 +43,10 @@ pub record Asks {V : Type 0} (turn : Turn) (widths heights : List V) (entries : 
   pub placing : Step V
   pub places : Places turn widths heights placing
   pub are : steps ≡ map step_of_entry entries ++ (placing ∷ [])
+
+-- the placing, and the steps, that a job in memory asks for
+abbrev pub PlacedBy : {V : Type 0} → Job V → Step V → Type 0
+PlacedBy j s = Places j.turn (vec_items j.widths) (vec_items j.heights) s
+
+abbrev pub AskedBy : {V : Type 0} → Job V → List (Step V) → Type 0
+AskedBy j steps = Asks j.turn (vec_items j.widths) (vec_items j.heights) (vec_items j.entries) steps

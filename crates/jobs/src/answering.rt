@@ -4,78 +4,78 @@ ghost use Rattle.formats.specs.Held.{order_fields, job_fields};
 ghost use Rattle.formats.specs.Writing as file;
 ghost use Rattle.jobs.specs.Steps.{Means};
 ghost use Rattle.reading.specs.Held.{any_job};
-ghost use Rattle.jobs.specs.Answers.{CameOn, Comes, ComesOf, RefusedBy, Answers};
+ghost use Rattle.jobs.specs.Answers.{CameBy, Comes, ComesOf, RefusedBy, Answers};
 
 use crate::steps::steps_of;
 use crate::telling::{refusal_file, tell};
 use book::{Book, Flipped, SequencePair, Slicing, Transposed};
-use formats::{Job, OrderLists, Turn};
+use formats::{OrderLists, Turn};
 use length::Numbered;
 use reading::{AnyJob, ReadError, read_job};
+use refusal::Refusal;
 use roundtrip::job_laws;
 use sheet::run;
 use std::alloc::{AllocError, Global};
+use writing::LawfulJob;
 
-/// What a lawful job comes to on the sheet of a book, which is turned already.
+/// What a job comes to on the sheet of a book, which is turned already.
 fn answer_on<B: Book + Drop, T: Numbered>(
     heap: Global,
     book: B,
-    job: &Job<T>,
+    lawful: &LawfulJob<T>,
 ) -> Result<Vec<u8>, AllocError>
-    requires lawful { file.job_check (job_fields T.Numbered.numbers job.now) ≡ Ok tt }
-    requires counted { (B.Book.order book).count ≡ job.now.count }
-    ensures { IfOk result (λ v. CameOn T.Length.kind T.Numbered.numbers (B.Book.order book) job.now.widths.items job.now.heights.items (job_fields T.Numbered.numbers job.now) v.items) }
+    requires { (B.Book.order book).count ≡ lawful.now.job.now.count }
+    ensures { IfOk result (λ v. CameBy T.Length.kind T.Numbered.numbers (B.Book.order book) lawful.now.job.now v.items) }
 {
-    let steps = steps_of(heap, job)?;
+    let steps = steps_of(heap, lawful.job)?;
     let answers = run(heap, book, &steps)?;
-    tell(heap, job, &answers)
+    tell(heap, lawful, &answers)
 }
 
-/// What a lawful job comes to, where the book means its lists.
+/// What a job comes to, where the book means its lists.
 fn answer_with<B: Book + Drop, T: Numbered>(
     heap: Global,
     book: B,
-    job: &Job<T>,
+    lawful: &LawfulJob<T>,
 ) -> Result<Vec<u8>, AllocError>
-    requires lawful { file.job_check (job_fields T.Numbered.numbers job.now) ≡ Ok tt }
-    requires means { Means job.now.count (order_fields job.now.order) (B.Book.order book) }
-    ensures { IfOk result (λ v. Comes T.Length.kind T.Numbered.numbers (job_fields T.Numbered.numbers job.now) v.items) }
+    requires { Means lawful.now.job.now.count (order_fields lawful.now.job.now.order) (B.Book.order book) }
+    ensures { IfOk result (λ v. Comes T.Length.kind T.Numbered.numbers (job_fields T.Numbered.numbers lawful.now.job.now) v.items) }
 {
-    match job.turn {
-        Turn::AsItIs => answer_on(heap, book, job),
-        Turn::Transposed => answer_on(heap, Transposed::new(book), job),
-        Turn::Flipped => answer_on(heap, Flipped::new(book), job),
-        Turn::TransposedFlipped => answer_on(heap, Transposed::new(Flipped::new(book)), job),
+    match lawful.job.turn {
+        Turn::AsItIs => answer_on(heap, book, lawful),
+        Turn::Transposed => answer_on(heap, Transposed::new(book), lawful),
+        Turn::Flipped => answer_on(heap, Flipped::new(book), lawful),
+        Turn::TransposedFlipped => answer_on(heap, Transposed::new(Flipped::new(book)), lawful),
     }
 }
 
-/// What a lawful job comes to.
-fn answer_job<T: Numbered>(heap: Global, job: &Job<T>) -> Result<Vec<u8>, AllocError>
-    requires lawful { file.job_check (job_fields T.Numbered.numbers job.now) ≡ Ok tt }
-    ensures { IfOk result (λ v. Comes T.Length.kind T.Numbered.numbers (job_fields T.Numbered.numbers job.now) v.items) }
+/// What a job comes to.
+fn answer_job<T: Numbered>(heap: Global, lawful: &LawfulJob<T>) -> Result<Vec<u8>, AllocError>
+    ensures { IfOk result (λ v. Comes T.Length.kind T.Numbered.numbers (job_fields T.Numbered.numbers lawful.now.job.now) v.items) }
 {
+    let job = lawful.job;
     match &job.order {
         OrderLists::SequencePair { first, second } => {
             match SequencePair::new(job.count, first, second) {
-                Ok(book) => answer_with(heap, book, job),
-                Err(fault) => refusal_file(heap, fault.refusal()),
+                Ok(book) => answer_with(heap, book, lawful),
+                Err(fault) => refusal_file(heap, Refusal::from(fault)),
             }
         }
         OrderLists::Slicing { expression } => match Slicing::new(job.count, expression) {
-            Ok(book) => answer_with(heap, book, job),
-            Err(fault) => refusal_file(heap, fault.refusal()),
+            Ok(book) => answer_with(heap, book, lawful),
+            Err(fault) => refusal_file(heap, Refusal::from(fault)),
         },
     }
 }
 
-/// What a lawful job comes to, with one number a length or with three.
+/// What a job comes to, with one number a length or with three.
 fn answer_any(heap: Global, job: &AnyJob) -> Result<Vec<u8>, AllocError>
-    requires lawful { file.job_check (any_job job.now) ≡ Ok tt }
+    requires { file.job_check (any_job job.now) ≡ Ok tt }
     ensures { IfOk result (λ v. ComesOf job.now v.items) }
 {
     match job {
-        AnyJob::One(job) => answer_job(heap, job),
-        AnyJob::Three(job) => answer_job(heap, job),
+        AnyJob::One(job) => answer_job(heap, &LawfulJob { job }),
+        AnyJob::Three(job) => answer_job(heap, &LawfulJob { job }),
     }
 }
 
@@ -84,7 +84,7 @@ fn answer_refused(heap: Global, error: ReadError) -> Result<Vec<u8>, AllocError>
     ensures { IfOk result (λ v. RefusedBy error v.items) }
 {
     match error {
-        ReadError::Refused(fault) => refusal_file(heap, fault.refusal()),
+        ReadError::Refused(fault) => refusal_file(heap, Refusal::from(fault)),
         ReadError::Memory => Err(AllocError),
     }
 }

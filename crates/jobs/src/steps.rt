@@ -1,6 +1,6 @@
 //! What a job asks of its sheet.
 ghost use Rattle.std.specs.Prelude.{◌≡◌, map, IfOk};
-ghost use Rattle.jobs.specs.Steps.{step_of_entry, Places, Asks};
+ghost use Rattle.jobs.specs.Steps.{step_of_entry, PlacedBy, AskedBy};
 
 use formats::{Entry, Job};
 use length::Length;
@@ -20,7 +20,7 @@ fn entry_step<'a, T: Length>(entry: Entry) -> Step<'a, T>
 
 /// The placing of a job, with its sizes as they serve.
 fn placing<'a, T: Length>(job: &'a Job<T>) -> Step<'a, T>
-    ensures { Places job.now.turn job.now.widths.items job.now.heights.items result }
+    ensures { PlacedBy job.now result }
 {
     if job.turn.exchanges() {
         Step::Place(&job.heights, &job.widths)
@@ -33,6 +33,7 @@ fn placing<'a, T: Length>(job: &'a Job<T>) -> Step<'a, T>
 fn edits<'a, T: Length>(heap: Global, entries: &[Entry]) -> Result<Vec<Step<'a, T>>, AllocError>
     ensures { IfOk result (λ steps. steps.items ≡ map step_of_entry entries.now) }
 {
+    // a closure whose result lends what its argument does not hold gets no proof, so this is no `map` with a `collect`
     let mut steps = Vec::new(heap);
     for asked in entries {
         steps.push(entry_step(*asked))?;
@@ -45,7 +46,7 @@ pub(crate) fn steps_of<'a, T: Length>(
     heap: Global,
     job: &'a Job<T>,
 ) -> Result<Vec<Step<'a, T>>, AllocError>
-    ensures { IfOk result (λ steps. Asks job.now.turn job.now.widths.items job.now.heights.items job.now.entries.items steps.items) }
+    ensures { IfOk result (λ steps. AskedBy job.now steps.items) }
 {
     let mut steps = edits(heap, &job.entries)?;
     steps.push(placing(job))?;

@@ -1,7 +1,10 @@
 -- One turn of a loop that checks: what is left to check tells what the whole does.
-use Rattle.std.proofs.Common.{◌≡◌, ℕ, ◌+◌, ◌<◌, ◌≤◌, min, Bool, true, false, List, [], ◌∷◌, ◌++◌, map, length, get_or, take, drop, IsErrAnd, Ok, Err, sym, refl, ap, ◌∙◌, ⊎_elim, arith}
+use Rattle.std.proofs.Common.{◌≡◌, ℕ, ◌+◌, ◌<◌, ◌≤◌, min, Bool, true, false, List, [], ◌∷◌, ◌++◌, map, length, get_or, take, drop, IsErrAnd, Ok, Err, sym, refl, ap, ◌∙◌, ⊎_elim, zero-add, arith}
 use Rattle.std.proofs.lemmas.List.{at_drop_more, at_drop_all, take_more, length-take-le}
+use Rattle.std.proofs.lemmas.List.FromFn.{length-enumerate_from, get_or-enumerate_from}
+use Rattle.std.proofs.lemmas.Slice.Zip.{length-zip, get_or-zip}
 use Rattle.std.proofs.lemmas.Bool.{cases_lt}
+use Rattle.std.specs.List.{zip, enumerate_from}
 use Rattle.refusal.specs.declared.fault.FieldFault.{FieldFault}
 use Rattle.refusal.specs.declared.fault.FieldFault.TheVariants as fault
 use Rattle.refusal.specs.declared.fault.SheetFault.{SheetFault}
@@ -87,44 +90,66 @@ no_heights : (cell : ℕ) (us : List (List ℕ)) → sizes_check cell us [] ≡ 
 no_heights cell [] = refl
 no_heights cell (u ∷ us) = refl
 
-module _ {V : Type 0} (numbers : V → List ℕ) (ws hs : List V) (cell : ℕ) (so_far : sizes_from numbers ws hs 0 ≡ sizes_from numbers ws hs cell) where
-  abbrev wide : V → Check
-  wide w = size_check (numbers w) cell Width
+-- these are the width and the height of the cell, which comes after i others
+pub record AtCell {V : Type 0} (ws hs : List V) (i cell : ℕ) (w h : V) : Type 0 where
+  pub is : cell ≡ i
+  pub in_ws : cell < length ws
+  pub in_hs : cell < length hs
+  pub wide : w ≡ get_or ws cell w
+  pub high : h ≡ get_or hs cell h
 
-  abbrev high : V → Check
-  high h = size_check (numbers h) cell Height
+-- the pairs of width and height, counted
+pub at_cell : {V : Type 0} (ws hs : List V) (i cell : ℕ) (w h : V) → i < length (enumerate_from 0 (zip ws hs)) → (cell, (w, h)) ≡ get_or (enumerate_from 0 (zip ws hs)) i (cell, (w, h)) → AtCell ws hs i cell w h
+at_cell {V} ws hs i cell w h inside at =
+    let long : i < length (zip ws hs) = omega (arith, length-enumerate_from 0 (zip ws hs)) in
+    let in_ws : i < length ws = omega (arith, length-zip ws hs) in
+    let in_hs : i < length hs = omega (arith, length-zip ws hs) in
+    let pair = get_or-zip ws hs i (w, h) in_ws in_hs in
+    let both = at ∙ get_or-enumerate_from 0 (zip ws hs) i (cell, (w, h)) long in
+    let is : cell ≡ i = ap (λ (p : ℕ × (V × V)). p.0) both ∙ zero-add i in
+    record {
+      is = is;
+      in_ws = omega (arith, is);
+      in_hs = omega (arith, is);
+      wide = ap (λ (p : ℕ × (V × V)). p.1.0) both ∙ ap (λ (p : V × V). p.0) pair ∙ ap (λ (k : ℕ). get_or ws k w) (sym is);
+      high = ap (λ (p : ℕ × (V × V)). p.1.1) both ∙ ap (λ (p : V × V). p.1) pair ∙ ap (λ (k : ℕ). get_or hs k h) (sym is);
+    }
 
-  abbrev later : Check
-  later = sizes_from numbers ws hs (cell + 1)
+module _ {V : Type 0} (numbers : V → List ℕ) (ws hs : List V) (i : ℕ) (so_far : sizes_from numbers ws hs 0 ≡ sizes_from numbers ws hs i) where
+  module _ (cell : ℕ) (w h : V) (here : AtCell ws hs i cell w h) where
+    abbrev wide : Check
+    wide = size_check (numbers w) cell Width
 
-  -- the two lengths of the cell, then those of the cells behind it
-  sizes_turn : (d e : V) → cell < length ws → cell < length hs → sizes_from numbers ws hs 0 ≡ both (wide (get_or ws cell d)) (both (high (get_or hs cell e)) later)
-  sizes_turn d e w h =
-      so_far
-      ∙ at_drop_more (λ (us : List V). sizes_check cell (map numbers us) (map numbers (drop cell hs))) ws cell d w
-      ∙ at_drop_more (λ (vs : List V). sizes_check cell (map numbers (get_or ws cell d ∷ drop (cell + 1) ws)) (map numbers vs)) hs cell e h
+    abbrev high : Check
+    high = size_check (numbers h) cell Height
 
-  module _ (w : V) (in_ws : cell < length ws) (in_hs : cell < length hs) (is-w : w ≡ get_or ws cell w) where
-    pub width_fails : (f : SheetFault) → Err f ≡ size_check (numbers w) cell Width → sizes_from numbers ws hs 0 ≡ Err f
-    width_fails f e = sizes_turn w w in_ws in_hs ∙ both_err (wide (get_or ws cell w)) _ f (ap wide (sym is-w) ∙ sym e)
+    abbrev later : Check
+    later = sizes_from numbers ws hs (cell + 1)
 
-    module _ (passes : Ok tt ≡ size_check (numbers w) cell Width) (h : V) (is_h : h ≡ get_or hs cell h) where
-      after_width : sizes_from numbers ws hs 0 ≡ both (high h) later
-      after_width =
-          sizes_turn w h in_ws in_hs
-          ∙ both_ok (wide (get_or ws cell w)) _ (ap wide (sym is-w) ∙ sym passes)
-          ∙ ap (λ (v : V). both (high v) later) (sym is_h)
+    -- the two lengths of the cell, then those of the cells behind it
+    sizes_turn : sizes_from numbers ws hs 0 ≡ both wide (both high later)
+    sizes_turn =
+        so_far
+        ∙ ap (sizes_from numbers ws hs) (sym here.is)
+        ∙ at_drop_more (λ (us : List V). sizes_check cell (map numbers us) (map numbers (drop cell hs))) ws cell w here.in_ws
+        ∙ at_drop_more (λ (vs : List V). sizes_check cell (map numbers (get_or ws cell w ∷ drop (cell + 1) ws)) (map numbers vs)) hs cell h here.in_hs
+        ∙ ap (λ (v : V). both (size_check (numbers v) cell Width) (both (size_check (numbers (get_or hs cell h)) cell Height) later)) (sym here.wide)
+        ∙ ap (λ (v : V). both wide (both (size_check (numbers v) cell Height) later)) (sym here.high)
 
-      pub height_fails : (f : SheetFault) → Err f ≡ size_check (numbers h) cell Height → sizes_from numbers ws hs 0 ≡ Err f
-      height_fails f e = after_width ∙ both_err (high h) later f (sym e)
+    pub width_fails : (f : SheetFault) → Err f ≡ wide → sizes_from numbers ws hs 0 ≡ Err f
+    width_fails f e = sizes_turn ∙ both_err wide _ f (sym e)
 
-      pub sizes_more : Ok tt ≡ size_check (numbers h) cell Height → sizes_from numbers ws hs 0 ≡ sizes_from numbers ws hs (cell + 1)
-      sizes_more e = after_width ∙ both_ok (high h) later (sym e)
+    pub height_fails : Ok tt ≡ wide → (f : SheetFault) → Err f ≡ high → sizes_from numbers ws hs 0 ≡ Err f
+    height_fails passes f e = sizes_turn ∙ both_ok wide _ (sym passes) ∙ both_err high later f (sym e)
 
-  pub sizes_done : min (length ws) (length hs) ≤ cell → sizes_from numbers ws hs 0 ≡ Ok tt
-  sizes_done past =
+    pub sizes_more : Ok tt ≡ wide → Ok tt ≡ high → sizes_from numbers ws hs 0 ≡ sizes_from numbers ws hs (i + 1)
+    sizes_more passes e = sizes_turn ∙ both_ok wide _ (sym passes) ∙ both_ok high later (sym e) ∙ ap (λ (k : ℕ). sizes_from numbers ws hs (k + 1)) here.is
+
+  pub sizes_done : i ≡ length (enumerate_from 0 (zip ws hs)) → sizes_from numbers ws hs 0 ≡ Ok tt
+  sizes_done all =
+      let past : min (length ws) (length hs) ≤ i = omega (arith, length-enumerate_from 0 (zip ws hs), length-zip ws hs) in
       so_far
       ∙ ⊎_elim
-      (λ (w : cell < length ws). at_drop_all (λ (vs : List V). sizes_check cell (map numbers (drop cell ws)) (map numbers vs)) hs cell (omega arith) ∙ no_heights cell (map numbers (drop cell ws)))
-      (λ w. at_drop_all (λ (us : List V). sizes_check cell (map numbers us) (map numbers (drop cell hs))) ws cell w)
-      (cases_lt cell (length ws))
+      (λ (w : i < length ws). at_drop_all (λ (vs : List V). sizes_check i (map numbers (drop i ws)) (map numbers vs)) hs i (omega arith) ∙ no_heights i (map numbers (drop i ws)))
+      (λ w. at_drop_all (λ (us : List V). sizes_check i (map numbers us) (map numbers (drop i hs))) ws i w)
+      (cases_lt i (length ws))

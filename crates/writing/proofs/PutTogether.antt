@@ -7,42 +7,40 @@ use Rattle.numbers.proofs.Standing.{put_append}
 use Rattle.numbers.proofs.Encoded.{encode_all_append, encode_all_few}
 use Rattle.formats.specs.declared.fields.Entry.{Entry}
 use Rattle.formats.specs.Files.{JobFields, by_cell, entry_numbers, before_entries, job_numbers}
+use Rattle.writing.specs.declared.pen.Pen.{Pen}
 use Rattle.writing.specs.Calls.{Puts}
 
-pub puts_none : (out : List ℕ) (p : ℕ) → Puts out p [] out p
-puts_none out p = record { next = omega arith; fits = λ h. refl }
+pub puts_none : (p : Pen) → Puts p [] p
+puts_none p = record { same = refl; long = refl; next = omega arith; fits = λ h. refl }
 
-pub puts_join : {out out1 out2 : List ℕ} {p q r : ℕ} {ms ns : List ℕ} → Puts out p ms out1 q → length out1 ≡ length out → Puts out1 q ns out2 r → Puts out p (ms ++ ns) out2 r
-puts_join {out} {out1} {out2} {p} {q} {r} {ms} {ns} s same t =
+pub puts_join : {p q r : Pen} {ms ns : List ℕ} → Puts p ms q → Puts q ns r → Puts p (ms ++ ns) r
+puts_join {p} {q} {r} {ms} {ns} s t =
     let e = encode_all_append ms ns in
     let long : length (encode_all (ms ++ ns)) ≡ length (encode_all ms) + length (encode_all ns) = ap length e ∙ length-append (encode_all ms) (encode_all ns) in
     record {
+      same = t.same ∙ s.same;
+      long = t.long ∙ s.long;
       next = omega (arith, s.next, t.next);
       fits =
           λ h.
           let first = s.fits (omega arith) in
-          let second = t.fits (omega (arith, s.next)) in
+          let second = t.fits (omega (arith, s.next, s.long)) in
           let at = s.next in
-          let whole = put_append out p (encode_all ms) (encode_all ns) in
+          let whole = put_append p.out.now p.at (encode_all ms) (encode_all ns) in
           cc;
     }
 
 -- the place behind the numbers
-pub puts_place : {out out1 : List ℕ} {p q : ℕ} {ns : List ℕ} → Puts out p ns out1 q → q ≤ p + 5 * length ns
+pub puts_place : {p q : Pen} {ns : List ℕ} → Puts p ns q → q.at ≤ p.at + 5 * length ns
 puts_place {ns = ns} s = omega (arith, s.next, encode_all_few ns)
 
--- from the front on, that is how many bytes there are
-pub puts_size : {out out1 : List ℕ} {q : ℕ} {ns : List ℕ} → Puts out 0 ns out1 q → q ≡ length (encode_all ns)
-puts_size s = omega (arith, s.next)
-
 -- the same numbers
-pub puts_same : {out out1 : List ℕ} {p q : ℕ} {ms ns : List ℕ} → ms ≡ ns → Puts out p ms out1 q → Puts out p ns out1 q
-puts_same {out} {out1} {p} {q} e s = subst (λ (ns : List ℕ). Puts out p ns out1 q) e s
+pub puts_same : {p q : Pen} {ms ns : List ℕ} → ms ≡ ns → Puts p ms q → Puts p ns q
+puts_same {p} {q} e s = subst (λ (ns : List ℕ). Puts p ns q) e s
 
 -- one number more of a list
-module _ {out out1 out2 : List ℕ} {p q r : ℕ} (xs : List ℕ) (i : ℕ) (inside : i < length xs) where
-  pub puts_more : Puts out p (take i xs) out1 q → length out1 ≡ length out → Puts out1 q (get_or xs i 0 ∷ []) out2 r → Puts out p (take (i + 1) xs) out2 r
-  puts_more s same t = puts_same (sym (take_more xs i 0 inside)) (puts_join s same t)
+pub puts_more : {p q r : Pen} (xs : List ℕ) (i : ℕ) → i < length xs → Puts p (take i xs) q → Puts q (get_or xs i 0 ∷ []) r → Puts p (take (i + 1) xs) r
+puts_more xs i inside s t = puts_same (sym (take_more xs i 0 inside)) (puts_join s t)
 
 pub storable_at : (xs : List ℕ) (i : ℕ) → EachStorable xs → i < length xs → get_or xs i 0 < 2 ^ 32
 storable_at [] i s h = absurd (omega arith)
@@ -82,10 +80,10 @@ module _ {V : Type 0} (numbers : V → List ℕ) where
   by_cell_few few (x ∷ xs) [] = omega arith
   by_cell_few few (x ∷ xs) (y ∷ ys) = simp length-append (omega (arith, few x, few y, by_cell_few few xs ys))
 
-  pub columns_place : {out out1 : List ℕ} {p q : ℕ} → ((x : V) → length (numbers x) ≤ 3) → (xs ys : List V) → Puts out p (by_cell (map numbers xs) (map numbers ys)) out1 q → q ≤ p + 30 * length xs
+  pub columns_place : {p q : Pen} → ((x : V) → length (numbers x) ≤ 3) → (xs ys : List V) → Puts p (by_cell (map numbers xs) (map numbers ys)) q → q.at ≤ p.at + 30 * length xs
   columns_place few xs ys s = omega (arith, puts_place s, by_cell_few few xs ys)
 
-  pub cells_place : {out out1 : List ℕ} {p q : ℕ} → ((x : V) → length (numbers x) ≤ 3) → (xs ys : List V) (i : ℕ) → Puts out p (cells xs ys i) out1 q → q ≤ p + 30 * i
+  pub cells_place : {p q : Pen} → ((x : V) → length (numbers x) ≤ 3) → (xs ys : List V) (i : ℕ) → Puts p (cells xs ys i) q → q.at ≤ p.at + 30 * i
   cells_place few xs ys i s = omega (arith, columns_place few (take i xs) (take i ys) s, length-take i xs)
 
 -- a length takes one number or three
@@ -107,7 +105,7 @@ entries_double : (es : List Entry) → length (entry_numbers es) ≡ 2 * length 
 entries_double [] = refl
 entries_double (e ∷ es) = omega (arith, entries_double es)
 
-pub entries_place : {out out1 : List ℕ} {p q : ℕ} (es : List Entry) (i : ℕ) → Puts out p (entry_numbers (take i es)) out1 q → q ≤ p + 10 * i
+pub entries_place : {p q : Pen} (es : List Entry) (i : ℕ) → Puts p (entry_numbers (take i es)) q → q.at ≤ p.at + 10 * i
 entries_place es i s = omega (arith, puts_place s, entries_double (take i es), length-take i es)
 
 pub entry_storable : (es : List Entry) (i : ℕ) (d : Entry) → EachStorable (entry_numbers es) → i < length es → ((get_or es i d).first < 2 ^ 32) × ((get_or es i d).second < 2 ^ 32)

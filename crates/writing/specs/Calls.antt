@@ -2,8 +2,11 @@
 use Rattle.std.specs.Prelude.{◌≡◌, ℕ, ◌+◌, ◌≤◌, List, length}
 use Rattle.numbers.specs.Number.{encode_all}
 use Rattle.numbers.specs.Stored.{put}
+use Rattle.writing.specs.declared.pen.Pen.{Pen}
 
--- the numbers put at place p of the output: the place behind them is q, and where they fit they stand there
-pub record Puts (out : List ℕ) (p : ℕ) (numbers : List ℕ) (out' : List ℕ) (q : ℕ) : Type 0 where
-  pub next : q ≡ p + length (encode_all numbers)
-  pub fits : p + length (encode_all numbers) ≤ length out → out' ≡ put out p (encode_all numbers)
+-- The pen put these numbers: it stands behind them, still over the same output, and where they fit they stand there.
+pub record Puts (before : Pen) (numbers : List ℕ) (after : Pen) : Type 0 where
+  pub same : after.out.ghost_name ≡ before.out.ghost_name
+  pub long : length after.out.now ≡ length before.out.now
+  pub next : after.at ≡ before.at + length (encode_all numbers)
+  pub fits : before.at + length (encode_all numbers) ≤ length before.out.now → after.out.now ≡ put before.out.now before.at (encode_all numbers)

@@ -1,16 +1,16 @@
 //! What writing checks before it writes, in this order: the counts, the lengths of the lists, then each field in file order.
 ghost use Rattle.std.specs.Prelude.{◌≡◌, ◌≤◌, [], map, length};
-ghost use Rattle.formats.specs.Held.{order_fields, job_fields};
+ghost use Rattle.formats.specs.Held.{order_fields, job_fields, placement_fields};
 ghost use Rattle.formats.specs.Rules as rule;
 ghost use Rattle.formats.specs.Reading.{misordered};
 ghost use Rattle.formats.specs.Writing as file;
 
-use formats::{BookKind, Entry, Job, OrderLists, fits, fits_entry, is_count};
+use formats::{BookKind, Entry, Job, OrderLists, Placement, fits, fits_entry, is_count};
 use length::Numbered;
 use refusal::{FieldFault, SheetFault, Side};
 
 /// Checks the number of cells, then the number of processes.
-pub(crate) fn check_counts(n: usize, processes: usize) -> Result<(), SheetFault>
+fn check_counts(n: usize, processes: usize) -> Result<(), SheetFault>
     ensures { result ≡ file.counts_check n processes }
 {
     if !is_count(n) {
@@ -37,11 +37,11 @@ fn check_length(ok: bool, list: usize) -> Result<(), SheetFault>
 fn is_long<T: Numbered>(n: usize, processes: usize, list: &[T]) -> bool
     ensures { result ≡ file.are_long n processes (map T.Numbered.numbers list.now) }
 {
-    list.len() == n && (list.is_empty() || T::count() == processes)
+    list.len() == n && (list.is_empty() || T::NUMBERS == processes)
 }
 
 /// Checks two lists of lengths, the first of which has this number.
-pub(crate) fn check_columns<T: Numbered>(
+fn check_columns<T: Numbered>(
     n: usize,
     processes: usize,
     list: usize,
@@ -115,9 +115,9 @@ fn check_size<T: Numbered>(length: T, cell: usize, side: Side) -> Result<(), She
 fn check_sizes<T: Numbered>(widths: &[T], heights: &[T]) -> Result<(), SheetFault>
     ensures { result ≡ file.sizes_check 0 (map T.Numbered.numbers widths.now) (map T.Numbered.numbers heights.now) }
 {
-    for cell in 0..widths.len().min(heights.len()) {
-        check_size(widths[cell], cell, Side::Width)?;
-        check_size(heights[cell], cell, Side::Height)?;
+    for (cell, (width, height)) in widths.iter().zip(heights).enumerate() {
+        check_size(*width, cell, Side::Width)?;
+        check_size(*height, cell, Side::Height)?;
     }
     Ok(())
 }
@@ -143,4 +143,18 @@ pub(crate) fn check_job<T: Numbered>(job: &Job<T>) -> Result<(), SheetFault>
     check_order(job.count, &job.order)?;
     check_sizes(&job.widths, &job.heights)?;
     check_entries(job.count, &job.entries)
+}
+
+/// Makes every check of a placement.
+pub(crate) fn check_placement<T: Numbered>(placement: &Placement<T>) -> Result<(), SheetFault>
+    ensures { result ≡ file.placement_check (placement_fields T.Numbered.numbers placement.now) }
+{
+    check_counts(placement.count, placement.processes)?;
+    check_columns(
+        placement.count,
+        placement.processes,
+        1,
+        &placement.x,
+        &placement.y,
+    )
 }

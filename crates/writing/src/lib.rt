@@ -3,8 +3,9 @@
 
 mod checks;
 mod job;
+mod pen;
 mod placement;
-mod putting;
+mod whole;
 
-pub use job::{entry_offset, write_job};
-pub use placement::{placement_size, write_placement};
+pub use job::{LawfulJob, entry_offset, write_job};
+pub use placement::{LawfulPlacement, placement_size, write_placement};

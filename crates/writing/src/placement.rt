@@ -1,54 +1,62 @@
 //! Placement files.
 ghost use Rattle.std.specs.Prelude.{◌≡◌, length, Ok, Err, MatchResult};
+ghost use Rattle.std.proofs.Props.{props};
 ghost use Rattle.formats.specs.Files as said;
 ghost use Rattle.formats.specs.Held.{placement_fields};
 ghost use Rattle.formats.specs.Writing as file;
 ghost use Rattle.formats.specs.Writing.{Written};
-ghost use Rattle.writing.specs.Calls.{Puts};
 
-use crate::checks::{check_columns, check_counts};
-use crate::putting::{put_columns, put_length, put_number};
-use formats::Placement;
+use crate::checks::check_placement;
+use crate::pen::Pen;
+use crate::whole::{Filed, size_of, write_whole};
+use formats::{PLACEMENT_MARK, Placement};
 use length::Numbered;
-use refusal::{FieldFault, SheetFault};
+use refusal::SheetFault;
 
-/// The number that marks a placement file.
-const MARK: u32 = 0;
-
-/// Makes every check of a placement.
-fn check_placement<T: Numbered>(placement: &Placement<T>) -> Result<(), SheetFault>
-    ensures { result ≡ file.placement_check (placement_fields T.Numbered.numbers placement.now) }
-{
-    check_counts(placement.count, placement.processes)?;
-    check_columns(
-        placement.count,
-        placement.processes,
-        1,
-        &placement.x,
-        &placement.y,
-    )
+/// A lawful placement: one that has a file.
+#[derive(Drop)]
+pub struct LawfulPlacement<'a, T: Numbered> {
+    pub placement: &'a Placement<T>,
+    pub ghost lawful: { file.placement_check (placement_fields T.Numbered.numbers placement.now) ≡ Ok tt } by { Prim.hlevel props },
 }
 
-/// Puts a lawful placement.
-fn put_placement<T: Numbered>(out: &mut [u8], placement: &Placement<T>) -> usize
-    requires lawful { file.placement_check (placement_fields T.Numbered.numbers placement.now) ≡ Ok tt }
-    ensures { Puts out.old 0 (said.placement_numbers (placement_fields T.Numbered.numbers placement.now)) out.new result }
-{
-    let counted = put_number(out, 0, MARK);
-    let processes = put_number(out, counted, placement.count as u32);
-    let half_span = put_number(out, processes, placement.processes as u32);
-    let depth = put_length(out, half_span, placement.half_span);
-    let placed = put_length(out, depth, placement.depth);
-    put_columns(out, placed, &placement.x, &placement.y)
+impl<'a, T: Numbered> LawfulPlacement<'a, T> {
+    /// The placement, if it is lawful; else the first of its faults.
+    pub fn new(placement: &'a Placement<T>) -> Result<LawfulPlacement<'a, T>, SheetFault>
+        ensures { MatchResult result (λ l. l.placement.now ≡ placement.now) (λ f. file.placement_check (placement_fields T.Numbered.numbers placement.now) ≡ Err f) }
+    {
+        check_placement(placement)?;
+        Ok(LawfulPlacement { placement })
+    }
+
+    /// How many bytes the file has.
+    pub fn size(&self) -> usize
+        ensures { result ≡ length (said.placement_bytes (placement_fields T.Numbered.numbers self.now.placement.now)) }
+    {
+        size_of(self)
+    }
+}
+
+impl<'a, T: Numbered> Filed for LawfulPlacement<'a, T> {
+    ghost numbers = { λ l. said.placement_numbers (placement_fields T.Numbered.numbers l.placement.now) };
+
+    fn put(&self, pen: &mut Pen) {
+        let placement = self.placement;
+        pen.number(PLACEMENT_MARK);
+        pen.number(placement.count as u32);
+        pen.number(placement.processes as u32);
+        pen.length(placement.half_span);
+        pen.length(placement.depth);
+        pen.columns(&placement.x, &placement.y);
+    }
 }
 
 /// How many bytes a placement file has. Refuses a placement that cannot be written.
 pub fn placement_size<T: Numbered>(placement: &Placement<T>) -> Result<usize, SheetFault>
     ensures { let p = placement_fields T.Numbered.numbers placement.now in MatchResult result (λ n. (file.placement_check p ≡ Ok tt) × (n ≡ length (said.placement_bytes p))) (λ f. file.placement_check p ≡ Err f) }
 {
-    check_placement(placement)?;
-    let mut nothing = [0u8; 0];
-    Ok(put_placement(&mut nothing, placement))
+    let lawful = LawfulPlacement::new(placement)?;
+    Ok(lawful.size())
 }
 
 /// Writes a placement file into the output and answers how many bytes it has; or refuses, and changes no byte.
@@ -58,9 +66,6 @@ pub fn write_placement<T: Numbered>(
 ) -> Result<usize, SheetFault>
     ensures { let p = placement_fields T.Numbered.numbers placement.now in Written (file.placement_check p) (said.placement_bytes p) out.old out.new result }
 {
-    let needed = placement_size(placement)?;
-    if out.len() < needed {
-        return Err(SheetFault::Field(FieldFault::OutputTooShort { needed }));
-    }
-    Ok(put_placement(out, placement))
+    let lawful = LawfulPlacement::new(placement)?;
+    write_whole(&lawful, out)
 }

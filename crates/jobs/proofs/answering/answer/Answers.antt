@@ -6,9 +6,8 @@ use Rattle.jobs.proofs.Files.{came_to, refused_so}
 use Rattle.jobs.proofs.answering.answer.Goals as goal
 
 pub answer_any-requires : goal.answer_any-requires
-answer_any-requires c = record {
-  lawful = (c.job_laws.ensures.only c.args.job.now (any_job c.in-Ok.read) (each_byte c.args.job.now (λ i. omega (arith, c.type_inv.job i))) c.in-Ok.ensures).0;
-}
+answer_any-requires c =
+    (c.job_laws.ensures.only c.args.job.now (any_job c.in-Ok.read) (each_byte c.args.job.now (λ i. omega (arith, c.type_inv.job i))) c.in-Ok.ensures).0
 
 pub returns-in-Ok : goal.returns-in-Ok
 returns-in-Ok c = IfOk-weaker c.answer_any.result _ _ (λ v came. came_to c.in-Ok.read c.args.job.now (vec_items v) c.in-Ok.ensures came) c.answer_any.ensures

@@ -10,11 +10,11 @@ use Rattle.jobs.proofs.answering.answer_job.Goals as goal
 
 pub returns-in-Err : goal.returns-in-Err
 returns-in-Err g c =
-    let job = c.args.job.now in
+    let job = c.args.lawful.now.job.now in
     let j = job_fields g.T.Numbered.numbers job in
     let first = vec_items c.in-SequencePair.first in
     let second = vec_items c.in-SequencePair.second in
-    let checked = job_checked j c.requires.lawful in
+    let checked = job_checked j c.args.lawful.now.lawful in
     let is = ap order_fields c.in-SequencePair.is in
     let lists = subst (λ (o : OrderFields). lists_check j o ≡ Ok tt) is checked.lists in
     let order = subst (λ (o : OrderFields). order_check job.count o ≡ Ok tt) is checked.order in
@@ -24,10 +24,10 @@ returns-in-Err g c =
 
 pub returns-in-Err-new : goal.returns-in-Err-new
 returns-in-Err-new g c =
-    let job = c.args.job.now in
+    let job = c.args.lawful.now.job.now in
     let j = job_fields g.T.Numbered.numbers job in
     let list = vec_items c.in-Slicing.expression in
-    let checked = job_checked j c.requires.lawful in
+    let checked = job_checked j c.args.lawful.now.lawful in
     let is = ap order_fields c.in-Slicing.is in
     let lists = subst (λ (o : OrderFields). lists_check j o ≡ Ok tt) is checked.lists in
     let order = subst (λ (o : OrderFields). order_check job.count o ≡ Ok tt) is checked.order in

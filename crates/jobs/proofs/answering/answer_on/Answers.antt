@@ -9,15 +9,12 @@ use Rattle.jobs.proofs.answering.answer_on.Goals as goal
 
 pub tell-requires : goal.tell-requires
 tell-requires g c =
-    record {
-      lawful = c.requires.lawful;
-      filled = subst (All (IsFilled c.args.job.now.count)) (sym c.deref-2.ensures.value) (subst (λ (n : ℕ). All (IsFilled n) (vec_items c.in_ok-answers.answers)) c.requires.counted c.in_ok-answers.ensures.filled);
-    }
+    subst (All (IsFilled c.args.lawful.now.job.now.count)) (sym c.deref-2.ensures.value) (subst (λ (n : ℕ). All (IsFilled n) (vec_items c.in_ok-answers.answers)) c.requires c.in_ok-answers.ensures.filled)
 
 pub returns : goal.returns
 returns g c =
     let numbers = g.T.Numbered.numbers in
-    let j = job_fields numbers c.args.job.now in
+    let j = job_fields numbers c.args.lawful.now.job.now in
     let o = g.B.Book.order c.args.book in
     let steps = vec_items c.in_ok-steps.steps in
     let answers = vec_items c.in_ok-answers.answers in
@@ -30,7 +27,7 @@ returns g c =
       answers = answers;
       ran = ran;
       filled = c.in_ok-answers.ensures.filled;
-      in_order = run_in_order g.T.Length.kind numbers (λ v. (g.met.T.Numbered.sized v).1) c.args.job.now c.requires.lawful o c.requires.counted steps answers asks ran;
+      in_order = run_in_order g.T.Length.kind numbers (λ v. (g.met.T.Numbered.sized v).1) c.args.lawful.now.job.now c.args.lawful.now.lawful o c.requires steps answers asks ran;
       tells = e ∙ ap (told numbers j 0) c.deref-2.ensures.value;
     })
     c.tell.ensures

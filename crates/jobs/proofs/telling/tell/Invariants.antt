@@ -6,4 +6,4 @@ use Rattle.jobs.proofs.telling.tell.Given as goal
 
 abbrev pub invariant-loop-step : goal.invariant-loop-step
 invariant-loop-step g l =
-    told g.T.Numbered.numbers (job_fields g.T.Numbered.numbers l.job) 0 l.answers ≡ told g.T.Numbered.numbers (job_fields g.T.Numbered.numbers l.job) l.step (drop l.step l.answers)
+    told g.T.Numbered.numbers (job_fields g.T.Numbered.numbers l.lawful.job.now) 0 l.answers ≡ told g.T.Numbered.numbers (job_fields g.T.Numbered.numbers l.lawful.job.now) l.step (drop l.step l.answers)

@@ -6,7 +6,7 @@ ghost use Rattle.std.specs.Prelude.{◌≡◌, ◌/◌, ◌<◌, ◌≤◌};
 ghost use Rattle.book.specs.Order.{most_cells};
 
 use book::Book;
-use length::{Length, Numbered};
+use length::Numbered;
 use refusal::SheetFault;
 use sheet::Sheet;
 use std::alloc::{AllocError, Global};
@@ -23,21 +23,26 @@ pub(crate) fn first_row(heap: Global, n: usize) -> Result<Vec<usize>, AllocError
     (0..n).collect(heap)
 }
 
-/// The second row: the cells between the pairs are taken in steps of five, so that one cell is left of some and above others.
-pub(crate) fn second_row(heap: Global, n: usize) -> Result<Vec<usize>, AllocError>
-    requires { n ≤ most_cells }
+/// The cell at a place of the second row: those between the pairs are taken in steps of five, so that one cell is left of some
+/// and above others.
+fn second_at(place: usize, n: usize) -> usize
+    requires place { place < n }
+    requires most { n ≤ most_cells }
 {
     let pairs = pairs(n);
     let between = n - 2 * pairs;
-    let mut row = Vec::new(heap);
-    for cell in 0..n {
-        if cell < pairs || cell >= pairs + between {
-            row.push(cell)?;
-        } else {
-            row.push(pairs + (5 * (cell - pairs) + 2) % between)?;
-        }
+    if (pairs..pairs + between).contains(&place) {
+        pairs + (5 * (place - pairs) + 2) % between
+    } else {
+        place
     }
-    Ok(row)
+}
+
+/// The second row.
+pub(crate) fn second_row(heap: Global, n: usize) -> Result<Vec<usize>, AllocError>
+    requires { n ≤ most_cells }
+{
+    (0..n).map(|place| second_at(place, n)).collect(heap)
 }
 
 /// The expression: three cells a time, two side by side and one above them, each three put beside those before or above
@@ -48,10 +53,7 @@ pub(crate) fn expression(heap: Global, n: usize) -> Result<Vec<usize>, AllocErro
     let pairs = pairs(n);
     let between = n - 2 * pairs;
     let (beside, above) = (n, n + 1);
-    let mut list = Vec::new(heap);
-    for left in 0..pairs {
-        list.push(left)?;
-    }
+    let mut list: Vec<usize> = (0..pairs).collect(heap)?;
     for i in 0..between / 3 {
         let cell = pairs + 3 * i;
         list.extend([cell, cell + 1, beside, cell + 2, above])?;
@@ -114,36 +116,29 @@ fn height<T: Numbered>(cell: usize) -> T
     ])
 }
 
-/// A list of `n` zeros.
-fn zeros<T: Length>(heap: Global, n: usize) -> Result<Vec<T>, AllocError> {
-    let mut list = Vec::new(heap);
-    for _ in 0..n {
-        list.push(T::zero())?;
+/// The cell that a cell has its size of: a right member has that of its mate.
+fn sized_as(cell: usize, n: usize) -> usize
+    requires { cell < n }
+    ensures { result < n }
+{
+    if cell < n - pairs(n) {
+        cell
+    } else {
+        n - 1 - cell
     }
-    Ok(list)
 }
 
 /// The lists of a placing of `n` cells, with sizes that vary from cell to cell and agree between mates.
 pub(crate) fn lists_of<T: Numbered>(heap: Global, n: usize) -> Result<Lists<T>, AllocError>
     requires { n ≤ most_cells }
 {
-    let mut widths = Vec::new(heap);
-    let mut heights = Vec::new(heap);
-    for cell in 0..n {
-        // a right member has the size of its mate
-        let lower = if cell < n - pairs(n) {
-            cell
-        } else {
-            n - 1 - cell
-        };
-        widths.push(width(lower, cell == n / 2))?;
-        heights.push(height(lower))?;
-    }
     Ok(Lists {
-        widths,
-        heights,
-        work: zeros(heap, 2 * n)?,
-        x: zeros(heap, n)?,
-        y: zeros(heap, n)?,
+        widths: (0..n)
+            .map(|cell| width(sized_as(cell, n), cell == n / 2))
+            .collect(heap)?,
+        heights: (0..n).map(|cell| height(sized_as(cell, n))).collect(heap)?,
+        work: vec![in heap; T::zero(); 2 * n]?,
+        x: vec![in heap; T::zero(); n]?,
+        y: vec![in heap; T::zero(); n]?,
     })
 }

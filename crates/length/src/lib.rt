@@ -1,7 +1,7 @@
 // Kinds of length: what a length is, whatever numbers it is made of, and what follows for each kind from the laws alone.
 #![tactic(auto)]
 
-ghost use Rattle.std.specs.Prelude.{◌≡◌, ℕ, ◌+◌, ◌<◌, ◌≤◌, ◌⊎◌, List, [], ◌∷◌, length, take, Some, Decides, MatchOption};
+ghost use Rattle.std.specs.Prelude.{◌≡◌, ℕ, ◌+◌, ◌<◌, ◌≤◌, ◌⊎◌, List, [], ◌∷◌, length, take, true, false, Some, Decides, MatchOption};
 ghost use Rattle.length.specs.Kind.{Kind, Laws, Even, sum_limit};
 ghost use Rattle.length.specs.Kinds.{plain_kind, process_kind, plain_numbers, process_numbers, plain_text, process_text, Lawful, EachLawful};
 ghost use Rattle.std.proofs.Common.{rules};
@@ -27,15 +27,11 @@ pub trait Length: Copy {
     // what the calls answer, sums of any size included
     ghost kind: { Kind Self };
 
-    // how many numbers one length takes
-    ghost count: { ℕ };
+    // the same for clauses
+    ghost NUMBERS: { ℕ };
 
     /// How many numbers one length takes: 1 or 3.
     const NUMBERS: usize;
-
-    /// `NUMBERS`, where generic code must know its value.
-    fn count() -> usize
-        ensures { result ≡ count };
 
     /// Whether this length is at most `other`, in every process.
     fn at_most(self, other: Self) -> bool
@@ -79,7 +75,7 @@ pub trait Length: Copy {
 
     ghost laws: { Laws kind };
 
-    ghost counted: { (count ≡ 1) ⊎ (count ≡ 3) };
+    ghost counted: { (NUMBERS ≡ 1) ⊎ (NUMBERS ≡ 3) };
 }
 
 /// A length that can be taken apart into its numbers and made of them, as files do: one text then reads and writes every kind.
@@ -89,13 +85,13 @@ pub trait Numbered: Length {
 
     /// The length that the first `NUMBERS` of these make.
     fn from_numbers(list: [u32; MOST_NUMBERS]) -> Self
-        ensures { numbers result ≡ take Self.count list };
+        ensures { numbers result ≡ take Self.NUMBERS list };
 
     /// The numbers of this length; what stands behind the first `NUMBERS` means nothing.
     fn to_numbers(self) -> [u32; MOST_NUMBERS]
-        ensures { take Self.count result ≡ numbers self };
+        ensures { take Self.NUMBERS result ≡ numbers self };
 
-    ghost listed: { (a : Self) → length (numbers a) ≡ Self.count };
+    ghost listed: { (a : Self) → length (numbers a) ≡ Self.NUMBERS };
 
     // equal numbers make equal lengths
     ghost pinned: { (a b : Self) → numbers a ≡ numbers b → a ≡ b };
@@ -108,11 +104,7 @@ pub trait Numbered: Length {
 fn within_limit(a: u32, b: u32) -> Option<u32>
     ensures { MatchOption result (sum_limit < a + b) (λ s. (a + b ≤ sum_limit) × (s ≡ a + b)) }
 {
-    let sum = a as u64 + b as u64;
-    if sum > SUM_LIMIT as u64 {
-        return None;
-    }
-    Some(sum as u32)
+    a.checked_add(b).filter(|sum| *sum <= SUM_LIMIT)
 }
 
 /// Whether a size may have this number.
@@ -129,17 +121,13 @@ pub struct Plain(pub u32);
 impl Length for Plain {
     ghost kind = { plain_kind };
 
-    ghost count = { 1 };
+    ghost NUMBERS = { 1 };
 
     const NUMBERS: usize = 1;
 
     ghost laws = { Prim.search rules };
 
     ghost counted = { Prim.search rules };
-
-    fn count() -> usize {
-        Self::NUMBERS
-    }
 
     fn at_most(self, other: Plain) -> bool {
         self.0 <= other.0
@@ -217,20 +205,53 @@ pub struct PerProcess {
     pub third: u32,
 }
 
+impl PerProcess {
+    /// What `of` makes of the number of each process.
+    fn each<F: Fn(u32) -> u32>(self, of: F) -> PerProcess
+        requires { F.IsAlwaysCallable of }
+        ensures { F.post of self.first result.first × F.post of self.second result.second × F.post of self.third result.third }
+    {
+        PerProcess {
+            first: of(self.first),
+            second: of(self.second),
+            third: of(self.third),
+        }
+    }
+
+    /// What `of` makes of the numbers that both have for each process.
+    fn both<F: Fn(u32, u32) -> u32>(self, other: PerProcess, of: F) -> PerProcess
+        requires first { F.pre of self.first other.first }
+        requires second { F.pre of self.second other.second }
+        requires third { F.pre of self.third other.third }
+        ensures { F.post of self.first other.first result.first × F.post of self.second other.second result.second × F.post of self.third other.third result.third }
+    {
+        PerProcess {
+            first: of(self.first, other.first),
+            second: of(self.second, other.second),
+            third: of(self.third, other.third),
+        }
+    }
+
+    /// Whether `rule` holds of the number of every process.
+    fn every<F: Fn(u32) -> bool>(self, rule: F) -> bool
+        requires { F.IsAlwaysCallable rule }
+        ensures yes { result ≡ true → F.post rule self.first true × F.post rule self.second true × F.post rule self.third true }
+        ensures no { result ≡ false → F.post rule self.first false ⊎ F.post rule self.second false ⊎ F.post rule self.third false }
+    {
+        rule(self.first) && rule(self.second) && rule(self.third)
+    }
+}
+
 impl Length for PerProcess {
     ghost kind = { process_kind };
 
-    ghost count = { 3 };
+    ghost NUMBERS = { 3 };
 
     const NUMBERS: usize = 3;
 
     ghost laws = { Prim.search rules };
 
     ghost counted = { Prim.search rules };
-
-    fn count() -> usize {
-        Self::NUMBERS
-    }
 
     fn at_most(self, other: PerProcess) -> bool {
         self.first <= other.first && self.second <= other.second && self.third <= other.third
@@ -247,19 +268,11 @@ impl Length for PerProcess {
     fn plus(self, other: PerProcess) -> Option<PerProcess> {
         // the two measures count, and not the three sums
         within_limit(self.measure(), other.measure())?;
-        Some(PerProcess {
-            first: self.first + other.first,
-            second: self.second + other.second,
-            third: self.third + other.third,
-        })
+        Some(self.both(other, |a, b| a + b))
     }
 
     fn join(self, other: PerProcess) -> PerProcess {
-        PerProcess {
-            first: self.first.max(other.first),
-            second: self.second.max(other.second),
-            third: self.third.max(other.third),
-        }
+        self.both(other, |a, b| a.max(b))
     }
 
     fn minus(self, other: PerProcess) -> Option<PerProcess> {
@@ -271,23 +284,15 @@ impl Length for PerProcess {
     }
 
     fn lower_half(self) -> PerProcess {
-        PerProcess {
-            first: self.first / 2,
-            second: self.second / 2,
-            third: self.third / 2,
-        }
+        self.each(|n| n / 2)
     }
 
     fn upper_half(self) -> PerProcess {
-        PerProcess {
-            first: self.first.div_ceil(2),
-            second: self.second.div_ceil(2),
-            third: self.third.div_ceil(2),
-        }
+        self.each(|n| n.div_ceil(2))
     }
 
     fn is_even(self) -> bool {
-        self.first % 2 == 0 && self.second % 2 == 0 && self.third % 2 == 0
+        self.every(|n| n % 2 == 0)
     }
 
     fn measure(self) -> u32 {
@@ -295,7 +300,7 @@ impl Length for PerProcess {
     }
 
     fn is_size(self) -> bool {
-        is_lawful(self.first) && is_lawful(self.second) && is_lawful(self.third)
+        self.every(is_lawful)
     }
 }
 

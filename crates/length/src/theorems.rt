@@ -1,11 +1,16 @@
 // Theorems that hold of every kind of length, each on a call: its contract states the theorem for all lengths, and what it
 // means for the call's own answer.
 ghost use Rattle.std.specs.Prelude.{◌≡◌, ℕ, ◌+◌, ◌<◌, true, length, Decides, MatchOption, ◌≢◌, slice_index_or};
-ghost use Rattle.length.specs.Kind.{Kind, Even, sum_limit};
+ghost use Rattle.length.specs.Kind.{Kind, Laws, Even, sum_limit};
 ghost use Rattle.length.specs.Join.{IsJoin};
 ghost use Rattle.length.specs.Theorems.{JoinDistributes, DoublingReflects, HalvesMeet, HalvesOrdered, HalvesShift, UpperHalf, UpperHalfLeast, EvenDoubles, JoinsStand};
 
 use crate::Length;
+
+/// Every kind of length obeys the laws. (Called at a kind that is known, it gives them to the caller.)
+pub fn laws_hold<T: Length>()
+    ensures { Laws T.Length.kind }
+{}
 
 /// The join of `a` and `b`, and `c` added: the join of the two sums with `c`.
 pub fn join_distributes<T: Length>(a: T, b: T, c: T) -> Option<T>

@@ -4,8 +4,8 @@
 ghost use Rattle.placement.specs.Theorems.{DownwardLoopForbids, LoopAcrossForbids, ForbiddenCoupleLoops, PathsAreShort, ValuesExist, ValuesUnique, RulePlaces, RuleIsBest, CellsLieApart, ForbiddenUnplaceable, CleanExactlyPlaceable};
 ghost use Rattle.placement.specs.Witnesses.{StackOfThreeLoops, RowOfFiveLoops};
 ghost use Rattle.placement.specs.PlacedRow.{OuterPairIsPlaced};
-ghost use Rattle.length.specs.Kind.{Laws};
 
+use length::theorems::laws_hold;
 use length::{Length, Plain};
 
 /// A loop downward gives a forbidden couple.
@@ -77,14 +77,9 @@ pub fn row_of_five_loops()
     ensures { RowOfFiveLoops }
 {}
 
-/// The laws of a kind of length, for use at a kind that is known.
-fn keeps_laws<T: Length>()
-    ensures { Laws T.Length.kind }
-{}
-
 /// A row of three cells, the outer two a pair, is a clean sheet, and what the rule gives for it is a placement.
 pub fn outer_pair_is_placed()
     ensures { OuterPairIsPlaced }
 {
-    keeps_laws::<Plain>();
+    laws_hold::<Plain>();
 }

@@ -19,24 +19,24 @@ fn bare(number: u8, layer: Layer, offset: usize) -> Refusal
     }
 }
 
-impl Side {
-    /// The number by which a refusal's detail names the side.
-    pub fn number(self) -> usize
-        ensures { result ≡ side_number self }
-    {
-        match self {
+/// The number by which a refusal's detail names the side.
+impl From<Side> for usize {
+    ghost from_gives = { λ side n. n ≡ side_number side };
+
+    fn from(side: Side) -> usize {
+        match side {
             Side::Width => 1,
             Side::Height => 2,
         }
     }
 }
 
-impl Layer {
-    /// The number by which a refusal names its layer.
-    pub fn number(self) -> u8
-        ensures { result ≡ layer_number self }
-    {
-        match self {
+/// The number by which a refusal names its layer.
+impl From<Layer> for u8 {
+    ghost from_gives = { λ layer n. n ≡ layer_number layer };
+
+    fn from(layer: Layer) -> u8 {
+        match layer {
             Layer::Bytes => 1,
             Layer::Fields => 2,
             Layer::Sheet => 3,
@@ -44,34 +44,32 @@ impl Layer {
     }
 }
 
-impl ByteFault {
-    /// The refusal that this fault comes to.
-    pub fn refusal(self) -> Refusal
-        ensures told { result ≡ byte_told self }
-        ensures layer { result.layer ≡ layer_of result.number }
-    {
-        match self {
+/// The refusal that a fault of the bytes comes to.
+impl From<ByteFault> for Refusal {
+    ghost from_gives = { λ fault r. (r ≡ byte_told fault) × (r.layer ≡ layer_of r.number) };
+
+    fn from(fault: ByteFault) -> Refusal {
+        match fault {
             ByteFault::Ends { length } => bare(1, Layer::Bytes, length),
             ByteFault::NotShortest { at } => bare(2, Layer::Bytes, at),
         }
     }
 }
 
-impl FieldFault {
-    /// The refusal that this fault comes to.
-    pub fn refusal(self) -> Refusal
-        ensures told { result ≡ field_told self }
-        ensures layer { result.layer ≡ layer_of result.number }
-    {
-        match self {
-            FieldFault::Bytes(fault) => fault.refusal(),
+/// The refusal that a fault of the fields comes to.
+impl From<FieldFault> for Refusal {
+    ghost from_gives = { λ fault r. (r ≡ field_told fault) × (r.layer ≡ layer_of r.number) };
+
+    fn from(fault: FieldFault) -> Refusal {
+        match fault {
+            FieldFault::Bytes(inner) => inner.into(),
             FieldFault::TrailingBytes { at } => bare(3, Layer::Fields, at),
             FieldFault::UnknownChoice { at } => bare(4, Layer::Fields, at),
             FieldFault::CellCount { at, .. } => bare(5, Layer::Fields, at),
             FieldFault::Order { at, .. } => bare(6, Layer::Fields, at),
             FieldFault::NotASize { at, cell, side } => Refusal {
                 first: cell,
-                second: side.number(),
+                second: side.into(),
                 ..bare(7, Layer::Fields, at)
             },
             FieldFault::GroupEntry { at } => bare(8, Layer::Fields, at),
@@ -83,23 +81,24 @@ impl FieldFault {
     }
 }
 
-impl SheetFault {
-    /// The refusal that this fault of a direct call comes to.
-    pub fn refusal(self) -> Refusal
-        ensures told { result ≡ sheet_told 0 self }
-        ensures layer { (result.layer ≡ layer_of result.number) ⊎ (result.number ≡ 7) }
-    {
-        self.refusal_at(0)
-    }
+/// The refusal that a fault of a direct call comes to.
+impl From<SheetFault> for Refusal {
+    ghost from_gives = { λ fault r. (r ≡ sheet_told 0 fault) × ((r.layer ≡ layer_of r.number) ⊎ (r.number ≡ 7)) };
 
+    fn from(fault: SheetFault) -> Refusal {
+        fault.refusal_at(0)
+    }
+}
+
+impl SheetFault {
     /// The refusal that this fault comes to where the group entry at byte `at` of a job is at fault.
     pub fn refusal_at(self, at: usize) -> Refusal
         ensures told { result ≡ sheet_told at self }
         ensures layer { (result.layer ≡ layer_of result.number) ⊎ (result.number ≡ 7) }
     {
         let (number, first, second) = match self {
-            SheetFault::Field(fault) => return fault.refusal(),
-            SheetFault::NotASize { cell, side } => (7, cell, side.number()),
+            SheetFault::Field(fault) => return fault.into(),
+            SheetFault::NotASize { cell, side } => (7, cell, side.into()),
             SheetFault::NoSuchCell { cell } => (9, cell, 0),
             SheetFault::SameCell { cell } => (10, cell, 0),
             SheetFault::AlreadyGrouped { cell } => (11, cell, 0),

@@ -1,5 +1,6 @@
 //! The faults in words, for an engineer who has to act on them.
 use crate::fault::{ByteFault, FieldFault, Layer, Refusal, SheetFault, Side};
+use std::error::Error;
 use std::fmt;
 
 impl fmt::Display for Side {
@@ -116,6 +117,12 @@ impl fmt::Display for SheetFault {
         }
     }
 }
+
+impl Error for ByteFault {}
+
+impl Error for FieldFault {}
+
+impl Error for SheetFault {}
 
 impl fmt::Display for Refusal {
     fn fmt<W: fmt::Write>(&self, f: &mut fmt::Formatter<W>) -> fmt::Result {

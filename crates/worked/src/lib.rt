@@ -2,19 +2,14 @@
 //! contracts of the other crates use. One list and one theorem, no code that runs.
 #![tactic(auto)]
 
-ghost use Rattle.length.specs.Kind.{Laws};
 ghost use Rattle.worked.specs.Worked.{Worked};
 
-use length::{Length, Plain};
-
-/// The laws of a kind of length, for use at a kind that is known.
-fn keeps_laws<T: Length>()
-    ensures { Laws T.Length.kind }
-{}
+use length::Plain;
+use length::theorems::laws_hold;
 
 /// Each worked case comes out as it says.
 pub fn worked_cases_come_out()
     ensures { Worked }
 {
-    keeps_laws::<Plain>();
+    laws_hold::<Plain>();
 }

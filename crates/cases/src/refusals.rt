@@ -2,7 +2,7 @@
 use crate::ROOM;
 use formats::{Entry, Job, OrderLists, Placement, Turn};
 use length::Plain;
-use refusal::SheetFault;
+use refusal::{Refusal, SheetFault};
 use std::alloc::{AllocError, Global};
 use writing::{write_job, write_placement};
 
@@ -36,7 +36,7 @@ fn print_written(
     match written {
         Ok(size) => println!(rt; "{what}: {size} bytes")?,
         Err(fault) => {
-            let refusal = fault.refusal();
+            let refusal = Refusal::from(fault);
             println!(rt; "{what}: {fault} ({refusal})")?;
         }
     }

@@ -250,7 +250,7 @@ fn mirror(rt: &impl Abort, left: u32, right: u32, width: u32, half_span: u32) {
 }
 
 /// Cells 0 and 1, side by side in this book of three, mirror each other in one number and in three.
-fn mirrors<B: Book + Drop>(rt: &HostRuntime, book: B) -> Result<(), Fail> {
+fn mirrors<B: Book + Drop>(rt: &(impl Abort + AllocGlobal), book: B) -> Result<(), Fail> {
     let mut sheet = Sheet::new(book);
     sheet.pair(0, 1)?;
     let widths = [Plain(4), Plain(4), Plain(3)];

@@ -11,7 +11,7 @@ mod tally;
 ghost use Rattle.std.specs.Prelude.{◌≤◌};
 ghost use Rattle.book.specs.Order.{most_cells};
 
-use anyhow::{anyhow, bail};
+use anyhow::{Context, bail};
 use book::{Book, SequencePair, Slicing};
 use dice::Dice;
 use length::{Numbered, PerProcess, Plain};
@@ -59,7 +59,7 @@ fn report<B: Book + Drop, T: Numbered>(
     requires { n ≤ most_cells }
 {
     let mut sheet = Sheet::new(book);
-    start::group(&mut sheet).map_err(|_| anyhow!("the group was refused"))?;
+    start::group(&mut sheet).context("the group was refused")?;
     let mut lists = start::lists_of::<T>(rt.alloc(), n)?;
     let Tally { done, refused, sum } = swaps(&mut sheet, &mut lists, count);
     println!(rt; "{count} swaps: {done} done and placed, {refused} refused, checksum {sum}")?;
@@ -71,7 +71,7 @@ fn sequence_pair(heap: Global, n: usize) -> anyhow::Result<SequencePair>
     requires { n ≤ most_cells }
 {
     let (first, second) = (start::first_row(heap, n)?, start::second_row(heap, n)?);
-    SequencePair::new(n, &first, &second).map_err(|_| anyhow!("the order makes no book"))
+    SequencePair::new(n, &first, &second).context("the order makes no book")
 }
 
 /// The slicing expression that the swaps begin with.
@@ -79,7 +79,7 @@ fn slicing(heap: Global, n: usize) -> anyhow::Result<Slicing>
     requires { n ≤ most_cells }
 {
     let expression = start::expression(heap, n)?;
-    Slicing::new(n, &expression).map_err(|_| anyhow!("the order makes no book"))
+    Slicing::new(n, &expression).context("the order makes no book")
 }
 
 fn run(rt: &HostRuntime) -> anyhow::Result<()> {

@@ -93,30 +93,7 @@ fn number(seed: usize) -> u32
     20 + (seed % 41) as u32
 }
 
-/// The width of a cell of its own, or of a pair; twice as wide where the cell is centred, so that the width is even.
-fn width<T: Numbered>(cell: usize, centred: bool) -> T
-    requires { cell < most_cells }
-{
-    let times = if centred { 2 } else { 1 };
-    T::from_numbers([
-        times * number(37 * cell),
-        times * number(37 * cell + 5),
-        times * number(37 * cell + 10),
-    ])
-}
-
-/// The height of a cell of its own, or of a pair.
-fn height<T: Numbered>(cell: usize) -> T
-    requires { cell < most_cells }
-{
-    T::from_numbers([
-        number(23 * cell),
-        number(23 * cell + 7),
-        number(23 * cell + 14),
-    ])
-}
-
-/// The cell that a cell has its size of: a right member has that of its mate.
+/// The cell that a cell of `n` has its size of: a right member has that of its mate.
 fn sized_as(cell: usize, n: usize) -> usize
     requires { cell < n }
     ensures { result < n }
@@ -128,15 +105,36 @@ fn sized_as(cell: usize, n: usize) -> usize
     }
 }
 
+/// The width of a cell of `n`: twice as wide where the cell is centred, so that the width is even.
+fn width<T: Numbered>(cell: usize, n: usize) -> T
+    requires cell { cell < n }
+    requires most { n ≤ most_cells }
+{
+    let times = if cell == n / 2 { 2 } else { 1 };
+    let seed = 37 * sized_as(cell, n);
+    T::from_numbers([
+        times * number(seed),
+        times * number(seed + 5),
+        times * number(seed + 10),
+    ])
+}
+
+/// The height of a cell of `n`.
+fn height<T: Numbered>(cell: usize, n: usize) -> T
+    requires cell { cell < n }
+    requires most { n ≤ most_cells }
+{
+    let seed = 23 * sized_as(cell, n);
+    T::from_numbers([number(seed), number(seed + 7), number(seed + 14)])
+}
+
 /// The lists of a placing of `n` cells, with sizes that vary from cell to cell and agree between mates.
 pub(crate) fn lists_of<T: Numbered>(heap: Global, n: usize) -> Result<Lists<T>, AllocError>
     requires { n ≤ most_cells }
 {
     Ok(Lists {
-        widths: (0..n)
-            .map(|cell| width(sized_as(cell, n), cell == n / 2))
-            .collect(heap)?,
-        heights: (0..n).map(|cell| height(sized_as(cell, n))).collect(heap)?,
+        widths: (0..n).map(|cell| width(cell, n)).collect(heap)?,
+        heights: (0..n).map(|cell| height(cell, n)).collect(heap)?,
         work: vec![in heap; T::zero(); 2 * n]?,
         x: vec![in heap; T::zero(); n]?,
         y: vec![in heap; T::zero(); n]?,

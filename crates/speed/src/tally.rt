@@ -1,6 +1,6 @@
 //! What the swaps came to.
 use length::Numbered;
-use refusal::SheetFault;
+use refusal::{Refusal, SheetFault};
 
 /// How many swaps were done and how many refused, and a checksum over every placement and every refusal.
 #[derive(Clone, Copy, Default)]
@@ -18,7 +18,7 @@ impl Tally {
 
     /// Takes the numbers of a length into the checksum, process by process.
     fn add_length<T: Numbered>(&mut self, length: T) {
-        for number in length.to_numbers().iter().take(T::count()) {
+        for number in length.to_numbers().iter().take(T::NUMBERS) {
             self.add(u64::from(*number));
         }
     }
@@ -41,7 +41,7 @@ impl Tally {
                 self.add(first as u64);
                 self.add(second as u64);
             }
-            _ => self.add(u64::from(fault.refusal().number)),
+            _ => self.add(u64::from(Refusal::from(fault).number)),
         }
     }
 }

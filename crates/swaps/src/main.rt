@@ -3,6 +3,7 @@
 
 ghost use Rattle.std.specs.Prelude.{◌<◌};
 
+use anyhow::Context;
 use book::{MOST_CELLS, SequencePair};
 use length::Plain;
 use placing::Extent;
@@ -91,11 +92,7 @@ fn main(rt: HostRuntime) -> anyhow::Result<()> {
     let count = env::args(&rt)?
         .skip(1)
         .try_fold(0, |_, word| word.parse::<u32>())?;
-    match swaps(count) {
-        Ok(Tally { done, refused, sum }) => println!(rt;
-            "{count} swaps: {done} done and placed, {refused} refused, checksum {sum}"
-        )?,
-        Err(_) => println!(rt; "the sheet was refused")?,
-    }
+    let Tally { done, refused, sum } = swaps(count).context("the sheet was refused")?;
+    println!(rt; "{count} swaps: {done} done and placed, {refused} refused, checksum {sum}")?;
     Ok(())
 }

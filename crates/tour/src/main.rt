@@ -163,7 +163,8 @@ fn draw(rt: &HostRuntime, placed: &Coordinates<Plain>) -> io::Result<()> {
     let Extent { half_span, depth } = placed.extent;
     for row in (0..u64::from(depth.0)).rev() {
         print!(rt; "    ")?;
-        for column in 0..2 * u64::from(half_span.0) {
+        // `as`: of a number from behind a reference, `u64::from` leaves no bound to the proof
+        for column in 0..2 * half_span.0 as u64 {
             match cell_at(placed, column, row) {
                 Some(cell) => print!(rt; "{cell}")?,
                 None => print!(rt; ".")?,

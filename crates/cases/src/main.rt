@@ -5,21 +5,20 @@
 mod refusals;
 
 use crate::refusals::{print_jobs, print_placements};
-use formats::Job;
 use jobs::answer;
-use length::Numbered;
 use reading::{AnyJob, AnyPlacement, Reader, read_job, read_placement};
+use refusal::SheetFault;
 use std::alloc::{AllocError, Global};
 use writing::{write_job, write_placement};
 
 /// Room for every file.
 const ROOM: usize = 4096;
 
-/// How many refusals a job file can come to: the numbers 1 to 16.
+/// How many things a file can come to: a placement, counted at 0, or a refusal, counted at its number, 1 to 16.
 const NUMBERS: usize = 17;
 
 /// What files came to.
-#[derive(Clone, Copy)]
+#[derive(Clone, Copy, Default)]
 struct Tally {
     /// How many placements there were, and how many refusals of each number.
     came: [u32; NUMBERS],
@@ -40,21 +39,11 @@ fn digit(byte: u8) -> Option<u8> {
 
 /// The bytes that a line of hexadecimal digits stands for; anything else between them is passed over.
 fn bytes_of(heap: Global, line: &str) -> Result<Vec<u8>, AllocError> {
-    let mut bytes = Vec::new(heap);
-    let mut high: Option<u8> = None;
-    for byte in line.bytes() {
-        let Some(low) = digit(byte) else {
-            continue;
-        };
-        match high {
-            None => high = Some(low),
-            Some(value) => {
-                bytes.push(value.wrapping_mul(16).wrapping_add(low))?;
-                high = None;
-            }
-        }
-    }
-    Ok(bytes)
+    let digits: Vec<u8> = line.bytes().filter_map(digit).collect(heap)?;
+    digits
+        .chunks_exact(2)
+        .map(|pair| pair.iter().fold(0, |byte, digit| byte << 4 | digit))
+        .collect(heap)
 }
 
 fn print_bytes(rt: &HostRuntime, bytes: &[u8]) -> anyhow::Result<()> {
@@ -71,75 +60,64 @@ fn refusal_number(bytes: &[u8]) -> Option<usize> {
     for _ in 0..4 {
         let _ = reader.number().ok()?;
     }
-    if reader.end().is_ok() && number > 0 {
-        Some(number as usize)
-    } else {
-        None
-    }
+    reader.end().ok()?;
+    (number > 0).then_some(number as usize)
 }
 
-/// Whether this is what the first bytes of the room are.
-fn same(room: &[u8], written: usize, bytes: &[u8]) -> bool {
-    written == bytes.len() && written <= room.len() && &room[..written] == bytes
+/// Whether a writing into the room has left the file there.
+fn wrote(written: Result<usize, SheetFault>, room: &[u8], file: &[u8]) -> bool {
+    written.is_ok_and(|size| room.get(..size) == Some(file))
 }
 
-/// Whether a placement file reads, and writes back to the same bytes.
-fn placement_stands(heap: Global, bytes: &[u8]) -> Option<bool> {
-    let mut room = [0u8; ROOM];
-    let written = match read_placement(heap, bytes).ok()? {
+/// Whether a placement file reads, and then whether it writes back to the same bytes.
+fn placement_stands(heap: Global, file: &[u8]) -> Option<bool> {
+    let mut room = [0; ROOM];
+    let written = match read_placement(heap, file).ok()? {
         AnyPlacement::One(placement) => write_placement(&placement, &mut room),
         AnyPlacement::Three(placement) => write_placement(&placement, &mut room),
     };
-    match written {
-        Ok(size) => Some(same(&room, size, bytes)),
-        Err(_) => Some(false),
-    }
+    Some(wrote(written, &room, file))
 }
 
-/// Whether a job that was read writes back to the same bytes.
-fn job_stands<T: Numbered>(job: &Job<T>, bytes: &[u8]) -> bool {
-    let mut room = [0u8; ROOM];
-    match write_job(job, &mut room) {
-        Ok(size) => same(&room, size, bytes),
-        Err(_) => false,
-    }
+/// Whether a job file, where it reads, writes back to the same bytes.
+fn job_stands(heap: Global, file: &[u8]) -> bool {
+    let mut room = [0; ROOM];
+    let written = match read_job(heap, file) {
+        Ok(AnyJob::One(job)) => write_job(&job, &mut room),
+        Ok(AnyJob::Three(job)) => write_job(&job, &mut room),
+        Err(_) => return true,
+    };
+    wrote(written, &room, file)
 }
 
 impl Tally {
     /// Counts what one file comes to.
     fn count(&mut self, heap: Global, file: &[u8]) -> Result<(), AllocError> {
-        let told = answer(heap, file)?;
-        let stands = match read_job(heap, file) {
-            Ok(AnyJob::One(job)) => job_stands(&job, file),
-            Ok(AnyJob::Three(job)) => job_stands(&job, file),
-            Err(_) => true,
-        };
-        if !stands {
+        if !job_stands(heap, file) {
             self.changed = self.changed.wrapping_add(1);
         }
-        self.count_answer(heap, &told);
+        self.count_answer(heap, &answer(heap, file)?);
         Ok(())
     }
 
     /// Counts an answer.
     fn count_answer(&mut self, heap: Global, told: &[u8]) {
-        let number = match placement_stands(heap, told) {
-            Some(true) => 0,
-            Some(false) => {
-                self.changed = self.changed.wrapping_add(1);
-                0
+        let stands = placement_stands(heap, told);
+        if stands == Some(false) {
+            self.changed = self.changed.wrapping_add(1);
+        }
+        let number = stands.map_or_else(|| refusal_number(told), |_| Some(0));
+        match number {
+            Some(number) if number < NUMBERS => {
+                self.came[number] = self.came[number].wrapping_add(1);
             }
-            None => refusal_number(told).unwrap_or(NUMBERS),
-        };
-        if number < NUMBERS {
-            self.came[number] = self.came[number].wrapping_add(1);
-        } else {
-            self.odd = self.odd.wrapping_add(1);
+            _ => self.odd = self.odd.wrapping_add(1),
         }
     }
 
     /// Counts what a file comes to that is cut at each place.
     fn cut(&mut self, heap: Global, file: &[u8]) -> Result<(), AllocError> {
+        // no iterator of std goes over the fronts of a slice
         for size in 0..file.len() {
             self.count(heap, &file[..size])?;
         }
@@ -149,23 +127,19 @@ impl Tally {
     /// Counts what a file comes to with each byte changed to each other.
     fn change(&mut self, heap: Global, file: &[u8]) -> Result<(), AllocError> {
         let mut changed = Vec::from_slice(heap, file)?;
-        for place in 0..file.len() {
-            for byte in 0..=255u8 {
-                if place < changed.len() && byte != file[place] {
-                    changed[place] = byte;
-                    self.count(heap, &changed)?;
-                }
+        for (place, was) in file.iter().enumerate() {
+            for byte in (0..=u8::MAX).filter(|byte| byte != was) {
+                changed[place] = byte;
+                self.count(heap, &changed)?;
             }
-            if place < changed.len() {
-                changed[place] = file[place];
-            }
+            changed[place] = *was;
         }
         Ok(())
     }
 
     /// Counts what a file comes to with one byte more at its end.
     fn lengthen(&mut self, heap: Global, file: &[u8]) -> Result<(), AllocError> {
-        for byte in 0..=255u8 {
+        for byte in 0..=u8::MAX {
             let mut longer = Vec::from_slice(heap, file)?;
             longer.push(byte)?;
             self.count(heap, &longer)?;
@@ -175,10 +149,10 @@ impl Tally {
 
     /// Prints what was counted.
     fn print(&self, rt: &HostRuntime) -> anyhow::Result<()> {
-        let mut files = self.odd;
-        for came in &self.came {
-            files = files.wrapping_add(*came);
-        }
+        let files = self
+            .came
+            .iter()
+            .fold(self.odd, |files, came| files.wrapping_add(*came));
         println!(rt; "# {files} damaged files")?;
         for (number, came) in self.came.iter().enumerate() {
             if number == 0 {
@@ -194,13 +168,9 @@ impl Tally {
     }
 }
 
-fn run(rt: &HostRuntime) -> anyhow::Result<()> {
+fn main(rt: HostRuntime) -> anyhow::Result<()> {
     let heap = rt.alloc();
-    let mut tally = Tally {
-        came: [0; NUMBERS],
-        odd: 0,
-        changed: 0,
-    };
+    let mut tally = Tally::default();
     for line in rt.lines(heap) {
         let line = line?;
         let text = line.as_str();
@@ -209,19 +179,15 @@ fn run(rt: &HostRuntime) -> anyhow::Result<()> {
             continue;
         }
         let file = bytes_of(heap, text)?;
-        print_bytes(rt, &file)?;
+        print_bytes(&rt, &file)?;
         print!(rt; " =")?;
-        print_bytes(rt, &answer(heap, &file)?)?;
+        print_bytes(&rt, &answer(heap, &file)?)?;
         println!(rt; "")?;
         tally.cut(heap, &file)?;
         tally.change(heap, &file)?;
         tally.lengthen(heap, &file)?;
     }
-    tally.print(rt)?;
-    print_jobs(rt)?;
-    print_placements(rt)
-}
-
-fn main(rt: HostRuntime) -> anyhow::Result<()> {
-    run(&rt)
+    tally.print(&rt)?;
+    print_jobs(&rt)?;
+    print_placements(&rt)
 }

@@ -2,16 +2,9 @@
 ghost use Rattle.length.specs.Kinds.{plain_kind, process_kind};
 ghost use Rattle.length.specs.Theorems.{HalvesMeet};
 
+use crate::shared::each;
 use length::{LARGEST_SIZE, Length, PerProcess, Plain, SUM_LIMIT, theorems};
 use std::test::Fail;
-
-fn each(first: u32, second: u32, third: u32) -> PerProcess {
-    PerProcess {
-        first,
-        second,
-        third,
-    }
-}
 
 #[test]
 fn sums_end_at_the_limit(rt: HostRuntime) {
@@ -157,10 +150,15 @@ fn theorems_serve_both_kinds(rt: HostRuntime) {
     assert_eq!(rt; theorems::join_of::<Plain>(&[]), Plain(0));
 }
 
+/// How many numbers a length takes, as code reads it that is written for every kind.
+fn numbers<T: Length>() -> usize {
+    T::NUMBERS
+}
+
 #[test]
 fn a_length_prints_its_numbers(rt: HostRuntime) -> Result<(), Fail> {
-    assert_eq!(rt; (Plain::NUMBERS, Plain::count()), (1, 1));
-    assert_eq!(rt; (PerProcess::NUMBERS, PerProcess::count()), (3, 3));
+    assert_eq!(rt; (Plain::NUMBERS, numbers::<Plain>()), (1, 1));
+    assert_eq!(rt; (PerProcess::NUMBERS, numbers::<PerProcess>()), (3, 3));
     assert_eq!(rt; format!(in rt.alloc(); "{}", Plain(7))?.as_str(), "7");
     assert_eq!(rt;
         format!(in rt.alloc(); "{}", each(7, 80, 0))?.as_str(),

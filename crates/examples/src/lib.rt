@@ -8,6 +8,8 @@ mod lengths;
 #[cfg(test)]
 mod sequence_pairs;
 #[cfg(test)]
+mod shared;
+#[cfg(test)]
 mod sheets;
 #[cfg(test)]
 mod slicing_expressions;

@@ -1,24 +1,8 @@
 //! Sequence-pairs by hand: small orders, the edges of the count, refused fillings and swaps.
+use crate::shared::{ascending, tells};
 use book::{Book, MOST_CELLS, Relation, SequencePair};
 use refusal::{FieldFault, SheetFault};
-use std::process::Abort;
 use std::test::Fail;
-
-/// Each line of the table is a relation that the book tells.
-fn tells(rt: &impl Abort, book: &SequencePair, table: &[(usize, usize, Relation)]) {
-    for (a, b, relation) in table {
-        assert_eq!(rt; book.relation(*a, *b), Ok(*relation));
-    }
-}
-
-/// The row 0, 1, 2, … as long as it can be.
-fn ascending() -> [usize; MOST_CELLS] {
-    let mut row = [0; MOST_CELLS];
-    for i in 0..MOST_CELLS {
-        row[i] = i;
-    }
-    row
-}
 
 #[test]
 fn small_orders(rt: HostRuntime) -> Result<(), Fail> {

@@ -1,9 +1,13 @@
 //! Sheets by hand: worked placements, refused edits, and the limits of count and size.
+ghost use Rattle.std.specs.Prelude.{◌≡◌, ◌*◌, length, vec_len, IfOk};
+
+use crate::shared::{ascending, each};
 use book::{Book, Flipped, MOST_CELLS, Relation, SequencePair, Slicing, Transposed};
-use length::{LARGEST_SIZE, PerProcess, Plain};
+use length::{LARGEST_SIZE, Length, Plain};
 use placing::Extent;
 use refusal::{SheetFault, Side};
-use sheet::Sheet;
+use sheet::{Coordinates, Sheet};
+use std::alloc::Global;
 use std::process::Abort;
 use std::test::Fail;
 
@@ -15,54 +19,46 @@ fn same(rt: &impl Abort, list: &[Plain], numbers: &[u32]) {
     }
 }
 
-/// A placing was refused so.
-fn refused(
-    rt: &impl Abort,
-    answer: Result<Extent<Plain>, SheetFault>,
-    fault: SheetFault,
-) -> Result<(), Fail> {
-    match answer {
-        Ok(_) => Err(Fail::new("placed")),
-        Err(refusal) => {
-            assert_eq!(rt; refusal, fault);
-            Ok(())
-        },
-    }
+/// A placement reaches as far to both sides, and as high.
+fn reaches(rt: &impl Abort, placed: &Coordinates<Plain>, half_span: u32, depth: u32) {
+    let Extent {
+        half_span: across,
+        depth: upward,
+    } = placed.extent;
+    assert_eq!(rt; (across.0, upward.0), (half_span, depth));
 }
 
-fn each(first: u32, second: u32, third: u32) -> PerProcess {
-    PerProcess {
-        first,
-        second,
-        third,
-    }
-}
-
-/// The row 0, 1, 2, … as long as it can be.
-fn ascending() -> [usize; MOST_CELLS] {
-    let mut row = [0; MOST_CELLS];
-    for i in 0..MOST_CELLS {
-        row[i] = i;
-    }
-    row
+/// A placing with these sizes, in lists that hold `before` everywhere.
+fn place<B: Book, T: Length>(
+    heap: Global,
+    sheet: &Sheet<B>,
+    before: T,
+    widths: &[T],
+    heights: &[T],
+) -> Result<Coordinates<T>, Fail>
+    ensures x { IfOk result (λ placed. vec_len placed.x ≡ length widths.now) }
+    ensures y { IfOk result (λ placed. vec_len placed.y ≡ length widths.now) }
+    ensures work { IfOk result (λ placed. vec_len placed.work ≡ 2 * length widths.now) }
+{
+    let n = widths.len();
+    let mut x = vec![in heap; before; n]?;
+    let mut y = vec![in heap; before; n]?;
+    let mut work = vec![in heap; before; 2 * n]?;
+    let extent = sheet.place(widths, heights, &mut work, &mut x, &mut y)?;
+    Ok(Coordinates { work, x, y, extent })
 }
 
 #[test]
 fn a_pair_with_a_free_cell_between(rt: HostRuntime) -> Result<(), Fail> {
     let mut sheet = Sheet::new(SequencePair::new(3, &[0, 2, 1], &[0, 2, 1])?);
     sheet.pair(0, 1)?;
-    let (mut work, mut x, mut y) = ([Plain(7); 6], [Plain(7); 3], [Plain(7); 3]);
-    let extent = sheet.place(
-        &[Plain(4), Plain(4), Plain(3)],
-        &[Plain(5), Plain(5), Plain(2)],
-        &mut work,
-        &mut x,
-        &mut y,
-    )?;
-    same(&rt, &x, &[0, 8, 4]);
-    same(&rt, &y, &[0, 0, 0]);
-    same(&rt, &work, &[0, 7, 4, 7, 0, 4]);
-    assert_eq!(rt; (extent.half_span.0, extent.depth.0), (6, 5));
+    let widths = [Plain(4), Plain(4), Plain(3)];
+    let heights = [Plain(5), Plain(5), Plain(2)];
+    let placed = place(rt.alloc(), &sheet, Plain(7), &widths, &heights)?;
+    same(&rt, &placed.x, &[0, 8, 4]);
+    same(&rt, &placed.y, &[0, 0, 0]);
+    same(&rt, &placed.work, &[0, 7, 4, 7, 0, 4]);
+    reaches(&rt, &placed, 6, 5);
     Ok(())
 }
 
@@ -70,14 +66,13 @@ fn a_pair_with_a_free_cell_between(rt: HostRuntime) -> Result<(), Fail> {
 fn a_pair_lifted_to_one_height(rt: HostRuntime) -> Result<(), Fail> {
     let mut sheet = Sheet::new(SequencePair::new(4, &[0, 2, 1, 3], &[2, 0, 3, 1])?);
     sheet.pair(0, 1)?;
-    let (mut work, mut x, mut y) = ([Plain(7); 8], [Plain(7); 4], [Plain(7); 4]);
     let widths = [Plain(4), Plain(4), Plain(5), Plain(4)];
     let heights = [Plain(2), Plain(2), Plain(3), Plain(7)];
-    let extent = sheet.place(&widths, &heights, &mut work, &mut x, &mut y)?;
-    same(&rt, &x, &[0, 6, 0, 5]);
-    same(&rt, &y, &[7, 7, 0, 0]);
-    same(&rt, &work, &[0, 5, 0, 5, 5, 0, 4, 0]);
-    assert_eq!(rt; (extent.half_span.0, extent.depth.0), (5, 9));
+    let placed = place(rt.alloc(), &sheet, Plain(7), &widths, &heights)?;
+    same(&rt, &placed.x, &[0, 6, 0, 5]);
+    same(&rt, &placed.y, &[7, 7, 0, 0]);
+    same(&rt, &placed.work, &[0, 5, 0, 5, 5, 0, 4, 0]);
+    reaches(&rt, &placed, 5, 9);
     Ok(())
 }
 
@@ -87,13 +82,12 @@ fn no_more_is_refused_than_must_be(rt: HostRuntime) -> Result<(), Fail> {
     let mut sheet = Sheet::new(SequencePair::new(4, &[0, 1, 2, 3], &[2, 0, 1, 3])?);
     sheet.pair(0, 1)?;
     sheet.pair(2, 3)?;
-    let (mut work, mut x, mut y) = ([Plain(7); 8], [Plain(7); 4], [Plain(7); 4]);
     let widths = [Plain(2), Plain(2), Plain(3), Plain(3)];
     let heights = [Plain(1), Plain(1), Plain(4), Plain(4)];
-    let extent = sheet.place(&widths, &heights, &mut work, &mut x, &mut y)?;
-    same(&rt, &x, &[3, 5, 0, 7]);
-    same(&rt, &y, &[4, 4, 0, 0]);
-    assert_eq!(rt; (extent.half_span.0, extent.depth.0), (5, 5));
+    let placed = place(rt.alloc(), &sheet, Plain(7), &widths, &heights)?;
+    same(&rt, &placed.x, &[3, 5, 0, 7]);
+    same(&rt, &placed.y, &[4, 4, 0, 0]);
+    reaches(&rt, &placed, 5, 5);
     Ok(())
 }
 
@@ -102,18 +96,13 @@ fn sheets_over_other_books(rt: HostRuntime) -> Result<(), Fail> {
     let mut sliced = Sheet::new(Slicing::new(3, &[0, 1, 3, 2, 4])?);
     sliced.pair(0, 1)?;
     sliced.centre(2)?;
-    let (mut work, mut x, mut y) = ([Plain(7); 6], [Plain(7); 3], [Plain(7); 3]);
-    let extent = sliced.place(
-        &[Plain(3), Plain(3), Plain(4)],
-        &[Plain(2), Plain(2), Plain(1)],
-        &mut work,
-        &mut x,
-        &mut y,
-    )?;
-    same(&rt, &x, &[0, 3, 1]);
-    same(&rt, &y, &[0, 0, 2]);
-    same(&rt, &work, &[0, 3, 0, 3, 0, 0]);
-    assert_eq!(rt; (extent.half_span.0, extent.depth.0), (3, 3));
+    let widths = [Plain(3), Plain(3), Plain(4)];
+    let heights = [Plain(2), Plain(2), Plain(1)];
+    let placed = place(rt.alloc(), &sliced, Plain(7), &widths, &heights)?;
+    same(&rt, &placed.x, &[0, 3, 1]);
+    same(&rt, &placed.y, &[0, 0, 2]);
+    same(&rt, &placed.work, &[0, 3, 0, 3, 0, 0]);
+    reaches(&rt, &placed, 3, 3);
     let row = SequencePair::new(2, &[0, 1], &[0, 1])?;
     let mut turned = Sheet::new(Transposed::new(row));
     assert_eq!(rt;
@@ -169,17 +158,12 @@ fn refused_edits_change_nothing(rt: HostRuntime) -> Result<(), Fail> {
         })
     );
     assert_eq!(rt; swapped.relation(0, 1), Ok(Relation::Left));
-    let (mut work, mut x, mut y) = ([Plain(7); 6], [Plain(7); 3], [Plain(7); 3]);
-    let extent = swapped.place(
-        &[Plain(2), Plain(2), Plain(3)],
-        &[Plain(1), Plain(1), Plain(4)],
-        &mut work,
-        &mut x,
-        &mut y,
-    )?;
-    same(&rt, &x, &[0, 2, 0]);
-    same(&rt, &y, &[4, 4, 0]);
-    assert_eq!(rt; (extent.half_span.0, extent.depth.0), (2, 5));
+    let widths = [Plain(2), Plain(2), Plain(3)];
+    let heights = [Plain(1), Plain(1), Plain(4)];
+    let placed = place(rt.alloc(), &swapped, Plain(7), &widths, &heights)?;
+    same(&rt, &placed.x, &[0, 2, 0]);
+    same(&rt, &placed.y, &[4, 4, 0]);
+    reaches(&rt, &placed, 2, 5);
     Ok(())
 }
 
@@ -194,29 +178,27 @@ fn refused_sizes_leave_the_lists(rt: HostRuntime) -> Result<(), Fail> {
         [Plain(0), Plain(2)],
     );
     let mut short = [Plain(9); 3];
-    refused(
-        &rt,
-        sheet.place(&[Plain(2)], &two, &mut work, &mut x, &mut y),
-        SheetFault::ListLength { list: 1 },
-    )?;
-    refused(
-        &rt,
-        sheet.place(&two, &two, &mut short, &mut x, &mut y),
-        SheetFault::ListLength { list: 3 },
-    )?;
-    refused(
-        &rt,
-        sheet.place(&two, &none, &mut work, &mut x, &mut y),
-        SheetFault::NotASize {
+    assert_eq!(rt;
+        sheet
+            .place(&[Plain(2)], &two, &mut work, &mut x, &mut y)
+            .err(),
+        Some(SheetFault::ListLength { list: 1 })
+    );
+    assert_eq!(rt;
+        sheet.place(&two, &two, &mut short, &mut x, &mut y).err(),
+        Some(SheetFault::ListLength { list: 3 })
+    );
+    assert_eq!(rt;
+        sheet.place(&two, &none, &mut work, &mut x, &mut y).err(),
+        Some(SheetFault::NotASize {
             cell: 0,
             side: Side::Height,
-        },
-    )?;
-    refused(
-        &rt,
-        sheet.place(&unlike, &two, &mut work, &mut x, &mut y),
-        SheetFault::PairSizesDiffer { cell: 0, mate: 1 },
-    )?;
+        })
+    );
+    assert_eq!(rt;
+        sheet.place(&unlike, &two, &mut work, &mut x, &mut y).err(),
+        Some(SheetFault::PairSizesDiffer { cell: 0, mate: 1 })
+    );
     same(&rt, &work, &[9, 9, 9, 9]);
     same(&rt, &x, &[9, 9]);
     same(&rt, &y, &[9, 9]);
@@ -232,14 +214,9 @@ fn the_largest_sheet(rt: HostRuntime) -> Result<(), Fail> {
         sheet.pair(i, MOST_CELLS - 1 - i)?;
     }
     let size = [Plain(LARGEST_SIZE); MOST_CELLS];
-    let (mut work, mut x, mut y) = (
-        [Plain(0); 128],
-        [Plain(0); MOST_CELLS],
-        [Plain(0); MOST_CELLS],
-    );
-    let extent = sheet.place(&size, &size, &mut work, &mut x, &mut y)?;
-    assert_eq!(rt; (extent.half_span.0, extent.depth.0), (32 << 20, 1 << 20));
-    assert_eq!(rt; (x[63].0, work[64].0), (63 << 20, 63 << 20));
+    let placed = place(rt.alloc(), &sheet, Plain(0), &size, &size)?;
+    reaches(&rt, &placed, 32 << 20, 1 << 20);
+    assert_eq!(rt; (placed.x[63].0, placed.work[64].0), (63 << 20, 63 << 20));
     Ok(())
 }
 
@@ -249,8 +226,13 @@ fn three_processes(rt: HostRuntime) -> Result<(), Fail> {
     let sheet = Sheet::new(SequencePair::new(2, &[0, 1], &[1, 0])?);
     let widths = [each(4, 1, 2), each(1, 6, 2)];
     let heights = [each(1, 2, 3), each(2, 2, 2)];
-    let (mut work, mut x, mut y) = ([each(9, 9, 9); 4], [each(9, 9, 9); 2], [each(9, 9, 9); 2]);
-    let extent = sheet.place(&widths, &heights, &mut work, &mut x, &mut y)?;
+    let Coordinates { x, y, extent, .. } = place(
+        rt.alloc(),
+        &sheet,
+        each(9, 9, 9),
+        &widths,
+        &heights,
+    )?;
     assert_eq!(rt; extent.half_span, each(2, 3, 1));
     assert_eq!(rt; extent.depth, each(3, 4, 5));
     assert_eq!(rt; x[0], each(0, 2, 0));
@@ -262,33 +244,34 @@ fn three_processes(rt: HostRuntime) -> Result<(), Fail> {
 /// Two left edges and a width make up the span.
 fn mirror(rt: &impl Abort, left: u32, right: u32, width: u32, half_span: u32) {
     assert_eq!(rt;
-        left as u64 + right as u64 + width as u64,
-        2 * half_span as u64
+        u64::from(left) + u64::from(right) + u64::from(width),
+        2 * u64::from(half_span)
     );
 }
 
 /// Cells 0 and 1, side by side in this book of three, mirror each other in one number and in three.
-fn mirrors<B: Book + Drop>(rt: &impl Abort, book: B) -> Result<(), Fail> {
+fn mirrors<B: Book + Drop>(rt: &(impl Abort + AllocGlobal), book: B) -> Result<(), Fail> {
     let mut sheet = Sheet::new(book);
     sheet.pair(0, 1)?;
-    let (mut work, mut x, mut y) = ([Plain(9); 6], [Plain(9); 3], [Plain(9); 3]);
-    let plain = sheet.place(
-        &[Plain(4), Plain(4), Plain(3)],
-        &[Plain(5), Plain(5), Plain(2)],
-        &mut work,
-        &mut x,
-        &mut y,
-    )?;
-    mirror(rt, x[0].0, x[1].0, 4, plain.half_span.0);
-    assert_eq!(rt; (plain.half_span.0, plain.depth.0), (6, 5));
-    let (mut work, mut x, mut y) = ([each(9, 9, 9); 6], [each(9, 9, 9); 3], [each(9, 9, 9); 3]);
+    let widths = [Plain(4), Plain(4), Plain(3)];
+    let heights = [Plain(5), Plain(5), Plain(2)];
+    let plain = place(rt.alloc(), &sheet, Plain(9), &widths, &heights)?;
+    mirror(rt, plain.x[0].0, plain.x[1].0, 4, plain.extent.half_span.0);
+    reaches(rt, &plain, 6, 5);
     let widths = [each(4, 6, 5), each(4, 6, 5), each(3, 2, 4)];
     let heights = [each(1, 1, 1); 3];
-    let three = sheet.place(&widths, &heights, &mut work, &mut x, &mut y)?;
-    mirror(rt, x[0].first, x[1].first, 4, three.half_span.first);
-    mirror(rt, x[0].second, x[1].second, 6, three.half_span.second);
-    mirror(rt, x[0].third, x[1].third, 5, three.half_span.third);
-    assert_eq!(rt; three.half_span, each(6, 7, 7));
+    let Coordinates { x, extent, .. } = place(
+        rt.alloc(),
+        &sheet,
+        each(9, 9, 9),
+        &widths,
+        &heights,
+    )?;
+    let half_span = extent.half_span;
+    mirror(rt, x[0].first, x[1].first, 4, half_span.first);
+    mirror(rt, x[0].second, x[1].second, 6, half_span.second);
+    mirror(rt, x[0].third, x[1].third, 5, half_span.third);
+    assert_eq!(rt; half_span, each(6, 7, 7));
     Ok(())
 }
 

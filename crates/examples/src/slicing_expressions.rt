@@ -1,7 +1,8 @@
 //! Slicing expressions by hand: small orders, combs as deep as can be, refused fillings and swaps.
+use crate::shared::tells;
 use book::{Book, MOST_CELLS, Relation, Slicing};
 use refusal::{FieldFault, SheetFault};
-use std::process::Abort;
+use std::array;
 use std::test::Fail;
 
 /// The numbers of the longest expression.
@@ -11,13 +12,6 @@ const LONGEST: usize = 127;
 const SIDE: usize = 64;
 
 const STACK: usize = 65;
-
-/// Each line of the table is a relation that the book tells.
-fn tells(rt: &impl Abort, book: &Slicing, table: &[(usize, usize, Relation)]) {
-    for (a, b, relation) in table {
-        assert_eq!(rt; book.relation(*a, *b), Ok(*relation));
-    }
-}
 
 /// The refusal of the number at this place.
 fn stops(place: usize) -> Result<(), SheetFault> {
@@ -30,21 +24,16 @@ fn stops(place: usize) -> Result<(), SheetFault> {
 
 /// Cell 0, then each next cell joined to all before it: 0 1 j 2 j 3 j …
 fn left_comb(join: usize) -> [usize; LONGEST] {
-    let mut expression = [join; LONGEST];
-    expression[0] = 0;
-    for cell in 1..MOST_CELLS {
-        expression[2 * cell - 1] = cell;
-    }
-    expression
+    array::from_fn(|place| match place {
+        0 => 0,
+        _ if place % 2 == 1 => place / 2 + 1,
+        _ => join,
+    })
 }
 
 /// Every cell first, then the joins, each of a cell and all after it: 0 1 2 3 … j j j …
 fn right_comb(join: usize) -> [usize; LONGEST] {
-    let mut expression = [join; LONGEST];
-    for cell in 0..MOST_CELLS {
-        expression[cell] = cell;
-    }
-    expression
+    array::from_fn(|place| if place < MOST_CELLS { place } else { join })
 }
 
 #[test]

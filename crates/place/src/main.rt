@@ -2,35 +2,26 @@
 //! standard output.
 #![tactic(auto)]
 
-ghost use Rattle.std.specs.Prelude.{◌≤◌, length, IfOk};
+ghost use Rattle.std.specs.Prelude.{◌≤◌, vec_len, IfOk};
 
 use jobs::answer;
+use std::alloc::Global;
 use std::io;
 use std::io::{Read, Write};
 
-/// How much of its input the program reads; no lawful job is as long.
-const INPUT_ROOM: usize = 4096;
+/// How many bytes of its input the program reads at most; no lawful job has as many.
+const MOST_READ: usize = 4096;
 
-/// Reads until the buffer is full or the input ends, and answers how much was read. A pipe may give less at a time than is
-/// asked for.
-fn fill<R: Read>(input: &mut R, buffer: &mut [u8]) -> io::Result<usize>
-    ensures { IfOk result (λ n. n ≤ length buffer.old) }
+/// Reads until the input ends, or so many bytes are read, one after another: so it does not matter how few a pipe gives at a
+/// time.
+fn read_job<R: Read + Drop>(heap: Global, input: R) -> io::Result<Vec<u8>>
+    ensures { IfOk result (λ job. vec_len job ≤ 4096) }
 {
-    let mut held = 0;
-    while held < buffer.len() {
-        let more = input.read(&mut buffer[held..])?;
-        if more == 0 {
-            break;
-        }
-        held += more;
-    }
-    Ok(held)
+    input.bytes().take(MOST_READ).try_collect(heap)
 }
 
 fn main(rt: HostRuntime) -> anyhow::Result<()> {
-    let mut input = [0u8; INPUT_ROOM];
-    let held = fill(&mut rt.stdin(), &mut input)?;
-    let bytes = answer(rt.alloc(), &input[..held])?;
-    rt.stdout().write_all(&bytes)?;
+    let job = read_job(rt.alloc(), rt.stdin())?;
+    rt.stdout().write_all(&answer(rt.alloc(), &job)?)?;
     Ok(())
 }

@@ -11,13 +11,13 @@ mod tally;
 ghost use Rattle.std.specs.Prelude.{◌≤◌};
 ghost use Rattle.book.specs.Order.{most_cells};
 
-use anyhow::anyhow;
+use anyhow::{Context, bail};
 use book::{Book, SequencePair, Slicing};
 use dice::Dice;
 use length::{Numbered, PerProcess, Plain};
-use refusal::SheetFault;
 use sheet::Sheet;
 use start::Lists;
+use std::alloc::Global;
 use std::env;
 use tally::Tally;
 
@@ -27,7 +27,7 @@ const USAGE: &str = "usage: speed SWAPS 8|16|32|64 pair|slicing one|three";
 fn swaps<B: Book, T: Numbered>(sheet: &mut Sheet<B>, lists: &mut Lists<T>, count: u32) -> Tally {
     let n = sheet.count();
     let mut dice = Dice::new();
-    let mut tally = Tally::new();
+    let mut tally = Tally::default();
     for _ in 0..count {
         let a = dice.below(n);
         let b = dice.below(n);
@@ -59,56 +59,46 @@ fn report<B: Book + Drop, T: Numbered>(
     requires { n ≤ most_cells }
 {
     let mut sheet = Sheet::new(book);
-    if start::group(&mut sheet).is_err() {
-        return Err(anyhow!("the group was refused"));
-    }
+    start::group(&mut sheet).context("the group was refused")?;
     let mut lists = start::lists_of::<T>(rt.alloc(), n)?;
     let Tally { done, refused, sum } = swaps(&mut sheet, &mut lists, count);
     println!(rt; "{count} swaps: {done} done and placed, {refused} refused, checksum {sum}")?;
     Ok(())
 }
 
-/// The same, with the kind of length that a word names.
-fn report_with<B: Book + Drop>(
-    rt: &HostRuntime,
-    book: Result<B, SheetFault>,
-    lengths: &str,
-    n: usize,
-    count: u32,
-) -> anyhow::Result<()>
+/// The sequence-pair that the swaps begin with.
+fn sequence_pair(heap: Global, n: usize) -> anyhow::Result<SequencePair>
     requires { n ≤ most_cells }
 {
-    let Ok(book) = book else {
-        return Err(anyhow!("the order makes no book"));
-    };
-    match lengths {
-        "one" => report::<B, Plain>(rt, book, n, count),
-        "three" => report::<B, PerProcess>(rt, book, n, count),
-        _ => Err(anyhow!(USAGE)),
-    }
+    let (first, second) = (start::first_row(heap, n)?, start::second_row(heap, n)?);
+    SequencePair::new(n, &first, &second).context("the order makes no book")
+}
+
+/// The slicing expression that the swaps begin with.
+fn slicing(heap: Global, n: usize) -> anyhow::Result<Slicing>
+    requires { n ≤ most_cells }
+{
+    let expression = start::expression(heap, n)?;
+    Slicing::new(n, &expression).context("the order makes no book")
 }
 
 fn run(rt: &HostRuntime) -> anyhow::Result<()> {
     let heap = rt.alloc();
     let words: Vec<String> = env::args(rt)?.skip(1).collect(heap)?;
     let [count, cells, book, lengths] = words.as_slice() else {
-        return Err(anyhow!(USAGE));
+        bail!(USAGE);
     };
-    let count = count.parse::<u32>()?;
-    let n = cells.parse::<usize>()?;
-    if n != 8 && n != 16 && n != 32 && n != 64 {
-        return Err(anyhow!(USAGE));
+    let count = count.parse()?;
+    let n = cells.parse()?;
+    if !matches!(n, 8 | 16 | 32 | 64) {
+        bail!(USAGE);
     }
-    match book.as_str() {
-        "pair" => {
-            let (first, second) = (start::first_row(heap, n)?, start::second_row(heap, n)?);
-            report_with(rt, SequencePair::new(n, &first, &second), lengths, n, count)
-        }
-        "slicing" => {
-            let expression = start::expression(heap, n)?;
-            report_with(rt, Slicing::new(n, &expression), lengths, n, count)
-        }
-        _ => Err(anyhow!(USAGE)),
+    match (book.as_str(), lengths.as_str()) {
+        ("pair", "one") => report::<_, Plain>(rt, sequence_pair(heap, n)?, n, count),
+        ("pair", "three") => report::<_, PerProcess>(rt, sequence_pair(heap, n)?, n, count),
+        ("slicing", "one") => report::<_, Plain>(rt, slicing(heap, n)?, n, count),
+        ("slicing", "three") => report::<_, PerProcess>(rt, slicing(heap, n)?, n, count),
+        _ => bail!(USAGE),
     }
 }
 

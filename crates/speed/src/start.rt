@@ -6,7 +6,7 @@ ghost use Rattle.std.specs.Prelude.{◌≡◌, ◌/◌, ◌<◌, ◌≤◌};
 ghost use Rattle.book.specs.Order.{most_cells};
 
 use book::Book;
-use length::{Length, Numbered};
+use length::Numbered;
 use refusal::SheetFault;
 use sheet::Sheet;
 use std::alloc::{AllocError, Global};
@@ -23,21 +23,26 @@ pub(crate) fn first_row(heap: Global, n: usize) -> Result<Vec<usize>, AllocError
     (0..n).collect(heap)
 }
 
-/// The second row: the cells between the pairs are taken in steps of five, so that one cell is left of some and above others.
-pub(crate) fn second_row(heap: Global, n: usize) -> Result<Vec<usize>, AllocError>
-    requires { n ≤ most_cells }
+/// The cell at a place of the second row: those between the pairs are taken in steps of five, so that one cell is left of some
+/// and above others.
+fn second_at(place: usize, n: usize) -> usize
+    requires place { place < n }
+    requires most { n ≤ most_cells }
 {
     let pairs = pairs(n);
     let between = n - 2 * pairs;
-    let mut row = Vec::new(heap);
-    for cell in 0..n {
-        if cell < pairs || cell >= pairs + between {
-            row.push(cell)?;
-        } else {
-            row.push(pairs + (5 * (cell - pairs) + 2) % between)?;
-        }
+    if (pairs..pairs + between).contains(&place) {
+        pairs + (5 * (place - pairs) + 2) % between
+    } else {
+        place
     }
-    Ok(row)
+}
+
+/// The second row.
+pub(crate) fn second_row(heap: Global, n: usize) -> Result<Vec<usize>, AllocError>
+    requires { n ≤ most_cells }
+{
+    (0..n).map(|place| second_at(place, n)).collect(heap)
 }
 
 /// The expression: three cells a time, two side by side and one above them, each three put beside those before or above
@@ -48,10 +53,7 @@ pub(crate) fn expression(heap: Global, n: usize) -> Result<Vec<usize>, AllocErro
     let pairs = pairs(n);
     let between = n - 2 * pairs;
     let (beside, above) = (n, n + 1);
-    let mut list = Vec::new(heap);
-    for left in 0..pairs {
-        list.push(left)?;
-    }
+    let mut list: Vec<usize> = (0..pairs).collect(heap)?;
     for i in 0..between / 3 {
         let cell = pairs + 3 * i;
         list.extend([cell, cell + 1, beside, cell + 2, above])?;
@@ -91,59 +93,50 @@ fn number(seed: usize) -> u32
     20 + (seed % 41) as u32
 }
 
-/// The width of a cell of its own, or of a pair; twice as wide where the cell is centred, so that the width is even.
-fn width<T: Numbered>(cell: usize, centred: bool) -> T
-    requires { cell < most_cells }
+/// The cell that a cell of `n` has its size of: a right member has that of its mate.
+fn sized_as(cell: usize, n: usize) -> usize
+    requires { cell < n }
+    ensures { result < n }
 {
-    let times = if centred { 2 } else { 1 };
-    T::from_numbers([
-        times * number(37 * cell),
-        times * number(37 * cell + 5),
-        times * number(37 * cell + 10),
-    ])
-}
-
-/// The height of a cell of its own, or of a pair.
-fn height<T: Numbered>(cell: usize) -> T
-    requires { cell < most_cells }
-{
-    T::from_numbers([
-        number(23 * cell),
-        number(23 * cell + 7),
-        number(23 * cell + 14),
-    ])
-}
-
-/// A list of `n` zeros.
-fn zeros<T: Length>(heap: Global, n: usize) -> Result<Vec<T>, AllocError> {
-    let mut list = Vec::new(heap);
-    for _ in 0..n {
-        list.push(T::zero())?;
+    if cell < n - pairs(n) {
+        cell
+    } else {
+        n - 1 - cell
     }
-    Ok(list)
+}
+
+/// The width of a cell of `n`: twice as wide where the cell is centred, so that the width is even.
+fn width<T: Numbered>(cell: usize, n: usize) -> T
+    requires cell { cell < n }
+    requires most { n ≤ most_cells }
+{
+    let times = if cell == n / 2 { 2 } else { 1 };
+    let seed = 37 * sized_as(cell, n);
+    T::from_numbers([
+        times * number(seed),
+        times * number(seed + 5),
+        times * number(seed + 10),
+    ])
+}
+
+/// The height of a cell of `n`.
+fn height<T: Numbered>(cell: usize, n: usize) -> T
+    requires cell { cell < n }
+    requires most { n ≤ most_cells }
+{
+    let seed = 23 * sized_as(cell, n);
+    T::from_numbers([number(seed), number(seed + 7), number(seed + 14)])
 }
 
 /// The lists of a placing of `n` cells, with sizes that vary from cell to cell and agree between mates.
 pub(crate) fn lists_of<T: Numbered>(heap: Global, n: usize) -> Result<Lists<T>, AllocError>
     requires { n ≤ most_cells }
 {
-    let mut widths = Vec::new(heap);
-    let mut heights = Vec::new(heap);
-    for cell in 0..n {
-        // a right member has the size of its mate
-        let lower = if cell < n - pairs(n) {
-            cell
-        } else {
-            n - 1 - cell
-        };
-        widths.push(width(lower, cell == n / 2))?;
-        heights.push(height(lower))?;
-    }
     Ok(Lists {
-        widths,
-        heights,
-        work: zeros(heap, 2 * n)?,
-        x: zeros(heap, n)?,
-        y: zeros(heap, n)?,
+        widths: (0..n).map(|cell| width(cell, n)).collect(heap)?,
+        heights: (0..n).map(|cell| height(cell, n)).collect(heap)?,
+        work: vec![in heap; T::zero(); 2 * n]?,
+        x: vec![in heap; T::zero(); n]?,
+        y: vec![in heap; T::zero(); n]?,
     })
 }

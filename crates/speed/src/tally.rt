@@ -1,9 +1,9 @@
 //! What the swaps came to.
 use length::Numbered;
-use refusal::SheetFault;
+use refusal::{Refusal, SheetFault};
 
 /// How many swaps were done and how many refused, and a checksum over every placement and every refusal.
-#[derive(Clone, Copy)]
+#[derive(Clone, Copy, Default)]
 pub(crate) struct Tally {
     pub(crate) done: u32,
     pub(crate) refused: u32,
@@ -11,14 +11,6 @@ pub(crate) struct Tally {
 }
 
 impl Tally {
-    pub(crate) fn new() -> Tally {
-        Tally {
-            done: 0,
-            refused: 0,
-            sum: 0,
-        }
-    }
-
     /// Takes one number into the checksum.
     fn add(&mut self, number: u64) {
         self.sum = self.sum.wrapping_mul(31).wrapping_add(number);
@@ -26,8 +18,8 @@ impl Tally {
 
     /// Takes the numbers of a length into the checksum, process by process.
     fn add_length<T: Numbered>(&mut self, length: T) {
-        for number in length.to_numbers().iter().take(T::count()) {
-            self.add(*number as u64);
+        for number in length.to_numbers().iter().take(T::NUMBERS) {
+            self.add(u64::from(*number));
         }
     }
 
@@ -36,10 +28,7 @@ impl Tally {
         self.done = self.done.wrapping_add(1);
         self.add_length(half_span);
         self.add_length(depth);
-        for edge in x {
-            self.add_length(*edge);
-        }
-        for edge in y {
+        for edge in x.iter().chain(y) {
             self.add_length(*edge);
         }
     }
@@ -52,7 +41,7 @@ impl Tally {
                 self.add(first as u64);
                 self.add(second as u64);
             }
-            _ => self.add(fault.refusal().number as u64),
+            _ => self.add(u64::from(Refusal::from(fault).number)),
         }
     }
 }

@@ -4,7 +4,7 @@
 use book::{Book, Flipped, SequencePair, Slicing, Transposed};
 use length::{Length, PerProcess, Plain};
 use placing::Extent;
-use refusal::SheetFault;
+use refusal::{Refusal, SheetFault};
 use sheet::{Answer, Coordinates, Step, run};
 use std::io;
 
@@ -23,14 +23,14 @@ const SECOND_ROW: [usize; 6] = [1, 0, 2, 3, 5, 4];
 /// The same as a slicing expression: 6 joins two parts side by side, 7 stacks them.
 const EXPRESSION: [usize; 11] = [1, 0, 6, 2, 6, 3, 5, 6, 4, 6, 7];
 
-/// The sizes of the channel's cells.
+/// The widths of the channel's cells, and below their heights: two lists, as a placing takes them.
 const WIDTHS: [Plain; 6] = [Plain(6), Plain(4), Plain(4), Plain(5), Plain(5), Plain(4)];
 
 const HEIGHTS: [Plain; 6] = [Plain(3), Plain(2), Plain(2), Plain(2), Plain(2), Plain(1)];
 
 /// What a fault says, in words and as the five numbers that come out.
 fn print_refusal(rt: &HostRuntime, fault: SheetFault) -> io::Result<()> {
-    let refusal = fault.refusal();
+    let refusal = Refusal::from(fault);
     println!(rt; "  refused: {fault}")?;
     println!(rt; "  ({refusal})")
 }
@@ -64,39 +64,33 @@ fn print_table<B: Book>(rt: &HostRuntime, book: &B) -> io::Result<()> {
 }
 
 /// The channel as two rows: its relations, a swap, and a filling that is refused.
-fn tour_rows(rt: &HostRuntime) -> io::Result<()> {
+fn tour_rows(rt: &HostRuntime) -> anyhow::Result<()> {
     println!(rt;
         "One channel as a sequence-pair: how the cell on the left of a line lies to each cell."
     )?;
-    let mut channel = match SequencePair::new(NAMES.len(), &FIRST_ROW, &SECOND_ROW) {
-        Ok(book) => book,
-        Err(fault) => return print_refusal(rt, fault),
-    };
+    let mut channel = SequencePair::new(NAMES.len(), &FIRST_ROW, &SECOND_ROW)?;
     print_table(rt, &channel)?;
     println!(rt; "The amplifier and the bias cell change places.")?;
-    if let Err(fault) = channel.swap(AMPLIFIER, BIAS) {
-        return print_refusal(rt, fault);
-    }
+    channel.swap(AMPLIFIER, BIAS)?;
     print_table(rt, &channel)?;
     println!(rt; "A second row that names the amplifier twice makes no book.")?;
     if let Err(fault) = channel.fill(NAMES.len(), &FIRST_ROW, &[1, 0, 2, 3, 0, 4]) {
         print_refusal(rt, fault)?;
     }
-    println!(rt; "")
+    println!(rt; "")?;
+    Ok(())
 }
 
 /// The channel as a slicing expression, as it is and turned.
-fn tour_layers(rt: &HostRuntime) -> io::Result<()> {
-    let channel = match Slicing::new(NAMES.len(), &EXPRESSION) {
-        Ok(book) => book,
-        Err(fault) => return print_refusal(rt, fault),
-    };
+fn tour_layers(rt: &HostRuntime) -> anyhow::Result<()> {
+    let channel = Slicing::new(NAMES.len(), &EXPRESSION)?;
     println!(rt; "The same channel as a slicing expression.")?;
     print_table(rt, &channel)?;
     println!(rt; "Transposed: what was above is right of, and what was left of is below.")?;
     print_table(rt, &Transposed::new(channel))?;
     println!(rt; "Flipped: left and right are exchanged.")?;
-    print_table(rt, &Flipped::new(channel))
+    print_table(rt, &Flipped::new(channel))?;
+    Ok(())
 }
 
 /// Two widths, each in three processes at once, added and halved.
@@ -120,56 +114,60 @@ fn tour_lengths(rt: &HostRuntime) -> io::Result<()> {
     Ok(())
 }
 
-/// What the steps of the sheet's run are, in words.
-const STEPS: [&str; 9] = [
-    "pair in- and in+",
-    "pair load- and load+",
-    "centre amp",
-    "centre bias",
-    "place",
-    "swap in- and load-",
-    "swap amp and bias",
-    "release bias",
-    "place",
+/// The steps of the sheet's run.
+const STEPS: [Step<'static, Plain>; 9] = [
+    Step::Pair(1, 2),
+    Step::Pair(3, 4),
+    Step::Centre(AMPLIFIER),
+    Step::Centre(BIAS),
+    Step::Place(&WIDTHS, &HEIGHTS),
+    Step::Swap(1, 3),
+    Step::Swap(AMPLIFIER, BIAS),
+    Step::Release(BIAS),
+    Step::Place(&WIDTHS, &HEIGHTS),
 ];
 
-/// The digit that stands for a cell in a drawing.
-const DIGITS: [&str; 6] = ["0", "1", "2", "3", "4", "5"];
-
-/// The cell that covers one unit of the grid, if any.
-fn cell_at(
-    placed: &Coordinates<Plain>,
-    widths: &[Plain],
-    heights: &[Plain],
-    column: u64,
-    row: u64,
-) -> Option<usize> {
-    for a in 0..widths.len() {
-        if a < placed.x.len() && a < placed.y.len() && a < heights.len() {
-            let (left, bottom) = (placed.x[a].0 as u64, placed.y[a].0 as u64);
-            let (right, top) = (left + widths[a].0 as u64, bottom + heights[a].0 as u64);
-            if left <= column && column < right && bottom <= row && row < top {
-                return Some(a);
-            }
-        }
-    }
-    None
+/// The name of a cell.
+fn name(cell: usize) -> &'static str {
+    NAMES.get(cell).copied().unwrap_or("no cell")
 }
 
-/// A drawing of a placement, a unit of the grid to a digit, the axis marked under it.
-fn draw(
-    rt: &HostRuntime,
-    placed: &Coordinates<Plain>,
-    widths: &[Plain],
-    heights: &[Plain],
-) -> io::Result<()> {
+/// What a step is, in words.
+fn print_step(rt: &HostRuntime, step: Step<Plain>) -> io::Result<()> {
+    match step {
+        Step::Swap(a, b) => println!(rt; "  swap {} and {}", name(a), name(b)),
+        Step::Pair(a, b) => println!(rt; "  pair {} and {}", name(a), name(b)),
+        Step::Centre(a) => println!(rt; "  centre {}", name(a)),
+        Step::Release(a) => println!(rt; "  release {}", name(a)),
+        Step::Place(..) => println!(rt; "  place"),
+    }
+}
+
+/// Whether a cell that begins here and is so long covers this unit of the grid.
+fn covers(start: Plain, size: Plain, unit: u64) -> bool {
+    let start = u64::from(start.0);
+    (start..start + u64::from(size.0)).contains(&unit)
+}
+
+/// The cell that covers one unit of the grid, if any.
+fn cell_at(placed: &Coordinates<Plain>, column: u64, row: u64) -> Option<usize> {
+    let across = placed.x.iter().zip(&WIDTHS);
+    let upward = placed.y.iter().zip(&HEIGHTS);
+    across.zip(upward).position(|((left, width), (bottom, height))| {
+        covers(*left, *width, column) && covers(*bottom, *height, row)
+    })
+}
+
+/// A drawing of a placement, a unit of the grid to the number of its cell, the axis marked under it.
+fn draw(rt: &HostRuntime, placed: &Coordinates<Plain>) -> io::Result<()> {
     let Extent { half_span, depth } = placed.extent;
-    for row in (0..depth.0 as u64).rev() {
+    for row in (0..u64::from(depth.0)).rev() {
         print!(rt; "    ")?;
+        // `as`: of a number from behind a reference, `u64::from` leaves no bound to the proof
         for column in 0..2 * half_span.0 as u64 {
-            match cell_at(placed, widths, heights, column, row) {
-                Some(a) if a < DIGITS.len() => print!(rt; "{}", DIGITS[a])?,
-                _ => print!(rt; ".")?,
+            match cell_at(placed, column, row) {
+                Some(cell) => print!(rt; "{cell}")?,
+                None => print!(rt; ".")?,
             }
         }
         println!(rt; "")?;
@@ -182,57 +180,32 @@ fn draw(
 }
 
 /// What one step came to.
-fn print_answer(
-    rt: &HostRuntime,
-    step: &str,
-    answer: &Answer<Plain>,
-    widths: &[Plain],
-    heights: &[Plain],
-) -> io::Result<()> {
-    println!(rt; "  {step}")?;
+fn print_answer(rt: &HostRuntime, answer: &Answer<Plain>) -> io::Result<()> {
     match answer {
         Answer::Edited => Ok(()),
         Answer::Refused(fault) => print_refusal(rt, *fault),
-        Answer::Placed(placed) => draw(rt, placed, widths, heights),
+        Answer::Placed(placed) => draw(rt, placed),
     }
 }
 
-/// The steps of the sheet's run, placed with these sizes.
-fn channel_steps<'a>(widths: &'a [Plain], heights: &'a [Plain]) -> [Step<'a, Plain>; 9] {
-    [
-        Step::Pair(1, 2),
-        Step::Pair(3, 4),
-        Step::Centre(AMPLIFIER),
-        Step::Centre(BIAS),
-        Step::Place(widths, heights),
-        Step::Swap(1, 3),
-        Step::Swap(AMPLIFIER, BIAS),
-        Step::Release(BIAS),
-        Step::Place(widths, heights),
-    ]
-}
-
 /// The channel as a sheet: edits, a refused swap, and placements.
-fn tour_sheet<'a>(rt: &HostRuntime, widths: &'a [Plain], heights: &'a [Plain]) -> io::Result<()> {
+fn tour_sheet(rt: &HostRuntime) -> anyhow::Result<()> {
     println!(rt;
         "The channel as a sheet: its pairs mirror each other, amp and bias are centred on the axis."
     )?;
-    let channel = match SequencePair::new(NAMES.len(), &FIRST_ROW, &SECOND_ROW) {
-        Ok(book) => book,
-        Err(fault) => return print_refusal(rt, fault),
-    };
-    let steps = channel_steps(widths, heights);
-    let answers = run(rt.alloc(), channel, &steps)?;
-    for (step, answer) in STEPS.iter().zip(answers.iter()) {
-        print_answer(rt, step, answer, widths, heights)?;
+    let channel = SequencePair::new(NAMES.len(), &FIRST_ROW, &SECOND_ROW)?;
+    let answers = run(rt.alloc(), channel, &STEPS)?;
+    for (step, answer) in STEPS.iter().zip(&answers) {
+        print_step(rt, *step)?;
+        print_answer(rt, answer)?;
     }
     Ok(())
 }
 
-fn main(rt: HostRuntime) -> io::Result<()> {
+fn main(rt: HostRuntime) -> anyhow::Result<()> {
     tour_rows(&rt)?;
     tour_layers(&rt)?;
     tour_lengths(&rt)?;
     println!(rt; "")?;
-    tour_sheet(&rt, &WIDTHS, &HEIGHTS)
+    tour_sheet(&rt)
 }

@@ -12,7 +12,6 @@ mod sheet;
 mod state;
 mod steps;
 
-pub use placing::Lists;
 pub use runs::run;
 pub use sheet::{Sheet, every_sheet_is_sound};
 pub use state::State;

@@ -1,5 +1,5 @@
 -- Writing to a table of partners keeps it lawful.
-use Rattle.std.proofs.Common.{◌≡◌, ℕ, zero, suc, ◌<◌, false, ◌≢◌, List, length, get_or, set, replicate, is_some, Some, None, Option, sym, refl, ap, ◌∙◌, ⊎_elim, arith, length-set, get_or-set_other, get_or-set_same}
+use Rattle.std.proofs.Common.{◌≡◌, ℕ, zero, suc, ◌<◌, ◌≤◌, false, ◌≢◌, List, length, get_or, set, replicate, is_some, Some, None, Option, sym, refl, ap, ◌∙◌, ⊎_elim, arith, length-set, get_or-set_other, get_or-set_same}
 use Rattle.std.proofs.lemmas.Bool.{cases_eq}
 use Rattle.std.proofs.lemmas.Bool.Decides.{eqb_tells}
 use Rattle.book.specs.Order.{most_cells}
@@ -73,6 +73,14 @@ module _ (n : ℕ) (p q : List (Option ℕ)) (a m : ℕ) (mates : at p a ≡ Som
         let not_a : y ≢ a = λ w. k.1 (same_some (ap (at p) (sym w) ∙ back) mates) in
         let not_m : y ≢ m = λ w. k.0 (same_some (ap (at p) (sym w) ∙ back) (returned a m mates)) in
         elsewhere y not_a not_m ∙ back
+
+-- beyond the cells nobody has a partner
+pub free_outside : (n : ℕ) (p : List (Option ℕ)) (a : ℕ) → Inside n p → n ≤ a → at p a ≡ None
+free_outside n p a inside h = go (at p a) refl
+  where
+    go : (o : Option ℕ) → at p a ≡ o → o ≡ None
+    go None e = refl
+    go (Some y) e = let l = inside a y e in absurd (omega arith)
 
 -- what the table has after a write
 module _ (p : List (Option ℕ)) (a : ℕ) (a_in : a < length p) (v : Option ℕ) where

@@ -30,7 +30,15 @@ impl Group {
     pub fn partner(&self, a: usize) -> Option<usize>
         ensures { result ≡ mate_of self.now a }
     {
-        (*self.partner.get(a)?).map(usize::from)
+        // (this is asked in the innermost loop of judging an edit: `get` and `map(usize::from)` were tried, and are a third
+        // slower or more)
+        if a >= self.count {
+            return None;
+        }
+        match self.partner[a] {
+            Some(mate) => Some(mate as usize),
+            None => None,
+        }
     }
 
     /// Refuses a cell that is in the group.

@@ -5,3 +5,6 @@ use Rattle.group.proofs.arrangement.Arrangement.first_forbidden.Given as goal
 
 abbrev pub invariant-loop-x : goal.invariant-loop-x
 invariant-loop-x g l = (u v : ℕ) → u < l.x → Forbidden (meaning_of l.self) u v → ⊥
+
+abbrev pub invariant-loop-y : goal.invariant-loop-y
+invariant-loop-y g l = (v : ℕ) → v < l.y → Forbidden (meaning_of l.self) l.x v → ⊥

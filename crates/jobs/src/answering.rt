@@ -54,6 +54,7 @@ fn answer_job<T: Numbered>(heap: Global, lawful: &LawfulJob<T>) -> Result<Vec<u8
     ensures { IfOk result (λ v. Comes T.Length.kind T.Numbered.numbers (job_fields T.Numbered.numbers lawful.now.job.now) v.items) }
 {
     let job = lawful.job;
+    // the two books are of two types, so each arm has a call of its own
     match &job.order {
         OrderLists::SequencePair { first, second } => {
             match SequencePair::new(job.count, first, second) {

@@ -126,6 +126,7 @@ fn check_sizes<T: Numbered>(widths: &[T], heights: &[T]) -> Result<(), SheetFaul
 fn check_entries(n: usize, entries: &[Entry]) -> Result<(), SheetFault>
     ensures { result ≡ file.entries_check n [] entries.now }
 {
+    // the walk of `check_list` with another rule and fault: one text over two closures is no plainer
     for (i, entry) in entries.iter().enumerate() {
         if !fits_entry(n, &entries[..i], *entry) {
             return Err(SheetFault::Field(FieldFault::GroupEntry { at: 0 }));

@@ -1,3 +1,4 @@
+pub mod LawfulSheet
 pub mod Tables
 pub mod Checks
 pub mod Searching

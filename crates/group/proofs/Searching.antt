@@ -1,5 +1,5 @@
 -- The search for the first forbidden couple: couples are cells, and what was passed over comes later.
-use Rattle.std.proofs.Common.{◌≡◌, ℕ, ◌<◌, ◌≤◌, sym, subst, inl, inr, ⊎_elim, arith}
+use Rattle.std.proofs.Common.{◌≡◌, ℕ, ◌<◌, ◌≤◌, Some, None, Option, MatchOption, sym, subst, inl, inr, ⊎_elim, arith}
 use Rattle.std.proofs.lemmas.Bool.{cases_lt, cases_eq}
 use Rattle.placement.specs.Meaning.{Meaning}
 use Rattle.placement.specs.Couples.{Forbidden, First}
@@ -20,3 +20,9 @@ first_found m x y here rows row = record {
       (cases_eq x u))
       (cases_lt u x);
 }
+
+-- the lowest cell that makes a forbidden couple with x, as a search among all cells tells it
+pub lowest_second : (m : Meaning) (x n : ℕ) → n ≡ m.order.count → (r : Option ℕ) → MatchOption r ((y : ℕ) → 0 ≤ y → y < n → Forbidden m x y → ⊥) (λ y. (0 ≤ y) × (y < n) × Forbidden m x y × ((v : ℕ) → 0 ≤ v → v < y → Forbidden m x v → ⊥)) → MatchOption r ((y : ℕ) → Forbidden m x y → ⊥) (λ y. Forbidden m x y × ((v : ℕ) → v < y → Forbidden m x v → ⊥))
+lowest_second m x n same None none =
+    λ y f. let inside : y < m.order.count = (forbidden_inside m x y f).1 in none y (omega arith) (omega arith) f
+lowest_second m x n same (Some y) found = (found.2, λ v low. found.3 v (omega arith) low)

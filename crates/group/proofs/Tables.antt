@@ -1,9 +1,13 @@
 -- Writing to a table of partners keeps it lawful.
-use Rattle.std.proofs.Common.{◌≡◌, ℕ, zero, suc, ◌<◌, ◌≤◌, false, ◌≢◌, List, length, get_or, set, replicate, is_some, Some, None, Option, sym, refl, ap, ◌∙◌, ⊎_elim, arith, length-set, get_or-set_other, get_or-set_same}
+use Rattle.std.proofs.Common.{◌≡◌, ℕ, zero, suc, ◌<◌, false, ◌≢◌, List, length, get_or, set, replicate, is_some, Some, None, Option, sym, refl, ap, ◌∙◌, ⊎_elim, arith, length-set, get_or-set_other, get_or-set_same}
 use Rattle.std.proofs.lemmas.Bool.{cases_eq}
 use Rattle.std.proofs.lemmas.Bool.Decides.{eqb_tells}
-use Rattle.group.specs.Edits.{paired, centred, freed}
+use Rattle.book.specs.Order.{most_cells}
+use Rattle.group.specs.declared.table.Group.{Group}
+use Rattle.group.specs.Group.{mate_of}
+use Rattle.group.specs.Edits.{Mates, paired, centred, freed}
 use Rattle.group.specs.Partners.{Inside, Returned}
+use Rattle.group.proofs.LawfulSheet.{mate_inside}
 
 -- the cell that has the place x in the table, if it has one
 abbrev pub at : List (Option ℕ) → ℕ → Option ℕ
@@ -28,14 +32,14 @@ not_some (Some v) e = cc
 module _ (n : ℕ) (p q : List (Option ℕ)) (a b : ℕ) (at_a : at q a ≡ Some b) (at_b : at q b ≡ Some a)
     (elsewhere : (x : ℕ) → x ≢ a → x ≢ b → at q x ≡ at p x)
   where
-    pub joined_inside : a < n → b < n → Inside n p → Inside n q
+    joined_inside : a < n → b < n → Inside n p → Inside n q
     joined_inside a_in b_in inside x y e =
         ⊎_elim
         (λ (u : x ≡ a). omega arith)
         (λ (u : x ≡ a → ⊥). ⊎_elim (λ (v : x ≡ b). omega arith) (λ (v : x ≡ b → ⊥). inside x y (sym (elsewhere x u v) ∙ e)) (cases_eq x b))
         (cases_eq x a)
 
-    pub joined_returned : at p a ≡ None → at p b ≡ None → Returned p → Returned q
+    joined_returned : at p a ≡ None → at p b ≡ None → Returned p → Returned q
     joined_returned a_free b_free returned x y e =
         ⊎_elim
         (λ (u : x ≡ a). ap (at q) (same_some (ap (at q) (sym u) ∙ e) at_a) ∙ at_b ∙ ap (λ (i : ℕ). Some i) (sym u))
@@ -59,10 +63,10 @@ module _ (n : ℕ) (p q : List (Option ℕ)) (a m : ℕ) (mates : at p a ≡ Som
         let v : x ≢ m = λ w. none_not_some at_m (ap (at q) (sym w) ∙ e) in
         (u, v, sym (elsewhere x u v) ∙ e)
 
-    pub freed_inside : Inside n p → Inside n q
+    freed_inside : Inside n p → Inside n q
     freed_inside inside x y e = inside x y (kept x y e).2
 
-    pub freed_returned : Returned p → Returned q
+    freed_returned : Returned p → Returned q
     freed_returned returned x y e =
         let k = kept x y e in
         let back = returned x y k.2 in
@@ -70,46 +74,38 @@ module _ (n : ℕ) (p q : List (Option ℕ)) (a m : ℕ) (mates : at p a ≡ Som
         let not_m : y ≢ m = λ w. k.0 (same_some (ap (at p) (sym w) ∙ back) (returned a m mates)) in
         elsewhere y not_a not_m ∙ back
 
--- beyond the cells nobody has a partner
-pub free_outside : (n : ℕ) (p : List (Option ℕ)) (a : ℕ) → Inside n p → n ≤ a → at p a ≡ None
-free_outside n p a inside h = go (at p a) refl
-  where
-    go : (o : Option ℕ) → at p a ≡ o → o ≡ None
-    go None e = refl
-    go (Some y) e = let l = inside a y e in absurd (omega arith)
-
 -- what the table has after a write
 module _ (p : List (Option ℕ)) (a : ℕ) (a_in : a < length p) (v : Option ℕ) where
-  pub written_here : at (set p a v) a ≡ v
+  written_here : at (set p a v) a ≡ v
   written_here = get_or-set_same p a v None a_in
 
-  pub written_elsewhere : (x : ℕ) → x ≢ a → at (set p a v) x ≡ at p x
+  written_elsewhere : (x : ℕ) → x ≢ a → at (set p a v) x ≡ at p x
   written_elsewhere x ne = get_or-set_other p a x v None ne
 
 -- and after two
 module _ (p : List (Option ℕ)) (a b : ℕ) (a_in : a < length p) (b_in : b < length p) (u v : Option ℕ) where
-  pub second_here : at (set (set p a u) b v) b ≡ v
+  second_here : at (set (set p a u) b v) b ≡ v
   second_here = written_here (set p a u) b (simp length-set b_in) v
 
-  pub first_here : a ≢ b → at (set (set p a u) b v) a ≡ u
+  first_here : a ≢ b → at (set (set p a u) b v) a ≡ u
   first_here ne = written_elsewhere (set p a u) b (simp length-set b_in) v a ne ∙ written_here p a a_in u
 
-  pub two_elsewhere : (x : ℕ) → x ≢ a → x ≢ b → at (set (set p a u) b v) x ≡ at p x
+  two_elsewhere : (x : ℕ) → x ≢ a → x ≢ b → at (set (set p a u) b v) x ≡ at p x
   two_elsewhere x na nb = written_elsewhere (set p a u) b (simp length-set b_in) v x nb ∙ written_elsewhere p a a_in u x na
 
 -- a table that has these mates at a and b, and the old ones elsewhere, means them
-pub means_paired : (p q : List (Option ℕ)) (a b : ℕ) → at q a ≡ Some b → at q b ≡ Some a → ((x : ℕ) → x ≢ a → x ≢ b → at q x ≡ at p x) → (x : ℕ) → at q x ≡ paired a b (at p) x
+means_paired : (p q : List (Option ℕ)) (a b : ℕ) → at q a ≡ Some b → at q b ≡ Some a → ((x : ℕ) → x ≢ a → x ≢ b → at q x ≡ at p x) → (x : ℕ) → at q x ≡ paired a b (at p) x
 means_paired p q a b at_a at_b elsewhere x =
     ⊎_elim
     (λ t. simp t.0 (ap (at q) t.1 ∙ at_a))
     (λ t. ⊎_elim (λ s. simp (t.0, s.0) (ap (at q) s.1 ∙ at_b)) (λ s. simp (t.0, s.0) (elsewhere x t.1 s.1)) (eqb_tells x b))
     (eqb_tells x a)
 
-pub means_centred : (p q : List (Option ℕ)) (a : ℕ) → at q a ≡ Some a → ((x : ℕ) → x ≢ a → at q x ≡ at p x) → (x : ℕ) → at q x ≡ centred a (at p) x
+means_centred : (p q : List (Option ℕ)) (a : ℕ) → at q a ≡ Some a → ((x : ℕ) → x ≢ a → at q x ≡ at p x) → (x : ℕ) → at q x ≡ centred a (at p) x
 means_centred p q a at_a elsewhere x =
     ⊎_elim (λ t. simp t.0 (ap (at q) t.1 ∙ at_a)) (λ t. simp t.0 (elsewhere x t.1)) (eqb_tells x a)
 
-pub means_freed : (p q : List (Option ℕ)) (a m : ℕ) → at p a ≡ Some m → at q a ≡ None → at q m ≡ None → ((x : ℕ) → x ≢ a → x ≢ m → at q x ≡ at p x) → (x : ℕ) → at q x ≡ freed a (at p) x
+means_freed : (p q : List (Option ℕ)) (a m : ℕ) → at p a ≡ Some m → at q a ≡ None → at q m ≡ None → ((x : ℕ) → x ≢ a → x ≢ m → at q x ≡ at p x) → (x : ℕ) → at q x ≡ freed a (at p) x
 means_freed p q a m mates at_a at_m elsewhere x =
     ⊎_elim
     (λ t. simp t.0 (ap (at q) t.1 ∙ at_a))
@@ -117,13 +113,64 @@ means_freed p q a m mates at_a at_m elsewhere x =
     (eqb_tells x a)
 
 -- two cells, or one, that were both freed
-pub both_freed : (p : List (Option ℕ)) (a m : ℕ) (a_in : a < length p) (m_in : m < length p) → at (set (set p a None) m None) a ≡ None
+both_freed : (p : List (Option ℕ)) (a m : ℕ) (a_in : a < length p) (m_in : m < length p) → at (set (set p a None) m None) a ≡ None
 both_freed p a m a_in m_in =
     ⊎_elim
     (λ (e : a ≡ m). ap (at (set (set p a None) m None)) e ∙ second_here p a m a_in m_in None None)
     (λ (ne : a ≡ m → ⊥). first_here p a m a_in m_in None None ne)
     (cases_eq a m)
 
--- a mate is a cell
-pub mate_inside : (n : ℕ) (p : List (Option ℕ)) (a m : ℕ) → Inside n p → Returned p → at p a ≡ Some m → m < n
-mate_inside n p a m inside returned e = inside m a (returned a m e)
+-- a table of partners among n cells that is lawful, and has these mates
+pub record Written (n : ℕ) (mates : Mates) (q : List (Option ℕ)) : Type 0 where
+  pub long : length q ≡ most_cells
+  pub inside : Inside n q
+  pub returned : Returned q
+  pub means : (x : ℕ) → at q x ≡ mates x
+
+-- what the edits of a group write
+module _ (g : Group) (a : ℕ) (a_in : a < g.count) where
+  abbrev p : List (Option ℕ)
+  p = g.partner
+
+  within : (b : ℕ) → b < g.count → b < length p
+  within b b_in = omega (arith, g.few, g.long)
+
+  pub pair_written : (b : ℕ) → b < g.count → a ≢ b → at p a ≡ None → at p b ≡ None → Written g.count (paired a b (mate_of g)) (set (set p a (Some b)) b (Some a))
+  pair_written b b_in ne a_free b_free =
+      let q = set (set p a (Some b)) b (Some a) in
+      let one = first_here p a b (within a a_in) (within b b_in) (Some b) (Some a) ne in
+      let two = second_here p a b (within a a_in) (within b b_in) (Some b) (Some a) in
+      let other = two_elsewhere p a b (within a a_in) (within b b_in) (Some b) (Some a) in
+      record {
+        long = simp length-set g.long;
+        inside = joined_inside g.count p q a b one two other a_in b_in g.inside;
+        returned = joined_returned g.count p q a b one two other a_free b_free g.returned;
+        means = means_paired p q a b one two other;
+      }
+
+  pub centre_written : at p a ≡ None → Written g.count (centred a (mate_of g)) (set p a (Some a))
+  centre_written free =
+      let q = set p a (Some a) in
+      let here = written_here p a (within a a_in) (Some a) in
+      let other = written_elsewhere p a (within a a_in) (Some a) in
+      let apart = λ (x : ℕ) (u v : x ≡ a → ⊥). other x u in
+      record {
+        long = simp length-set g.long;
+        inside = joined_inside g.count p q a a here here apart a_in a_in g.inside;
+        returned = joined_returned g.count p q a a here here apart free free g.returned;
+        means = means_centred p q a here other;
+      }
+
+  pub release_written : (m : ℕ) → at p a ≡ Some m → Written g.count (freed a (mate_of g)) (set (set p a None) m None)
+  release_written m told =
+      let q = set (set p a None) m None in
+      let m_in = mate_inside g a m told in
+      let one = both_freed p a m (within a a_in) (within m m_in) in
+      let two = second_here p a m (within a a_in) (within m m_in) None None in
+      let other = two_elsewhere p a m (within a a_in) (within m m_in) None None in
+      record {
+        long = simp length-set g.long;
+        inside = freed_inside g.count p q a m told one two other g.inside;
+        returned = freed_returned g.count p q a m told one two other g.returned;
+        means = means_freed p q a m told one two other;
+      }

@@ -1,3 +1,4 @@
 pub mod Partners
 pub mod Group
 pub mod Edits
+pub mod Arranged

@@ -1,10 +1,10 @@
 //! Making a group and changing it: the checks that need no order, and the mates afterwards.
 ghost use Rattle.std.specs.Prelude.{◌≡◌, ℕ, ◌<◌, ◌≤◌, Ok, Err, MatchResult};
 ghost use Rattle.group.specs.Group.{mate_of};
-ghost use Rattle.group.specs.Edits.{nobody, paired, centred, freed, pair_check, centre_check, release_check};
+ghost use Rattle.group.specs.Edits.{nobody, paired, centred, freed, cell_of, free_in, pair_check, centre_check, release_check};
 
 use crate::table::Group;
-use book::{Book, MOST_CELLS};
+use book::{Book, MOST_CELLS, within};
 use refusal::SheetFault;
 
 impl Group {
@@ -30,35 +30,39 @@ impl Group {
     pub fn partner(&self, a: usize) -> Option<usize>
         ensures { result ≡ mate_of self.now a }
     {
+        (*self.partner.get(a)?).map(usize::from)
+    }
+
+    /// Refuses a number that is no cell.
+    fn check_cell(&self, a: usize) -> Result<(), SheetFault>
+        ensures { result ≡ cell_of self.now.count a (Ok tt) }
+    {
         if a >= self.count {
-            return None;
+            return Err(SheetFault::NoSuchCell { cell: a });
         }
-        match self.partner[a] {
-            Some(mate) => Some(mate as usize),
-            None => None,
+        Ok(())
+    }
+
+    /// Refuses a cell that is in the group.
+    fn check_free(&self, a: usize) -> Result<(), SheetFault>
+        ensures { result ≡ free_in (mate_of self.now) a (Ok tt) }
+    {
+        if self.partner(a).is_some() {
+            return Err(SheetFault::AlreadyGrouped { cell: a });
         }
+        Ok(())
     }
 
     /// The checks of `pair`: two different cells, both free.
     fn check_pair(&self, a: usize, b: usize) -> Result<(), SheetFault>
         ensures { result ≡ pair_check self.now.count (mate_of self.now) a b }
     {
-        if a >= self.count {
-            return Err(SheetFault::NoSuchCell { cell: a });
-        }
-        if b >= self.count {
-            return Err(SheetFault::NoSuchCell { cell: b });
-        }
+        within(self.count, a, b)?;
         if a == b {
             return Err(SheetFault::SameCell { cell: a });
         }
-        if self.partner(a).is_some() {
-            return Err(SheetFault::AlreadyGrouped { cell: a });
-        }
-        if self.partner(b).is_some() {
-            return Err(SheetFault::AlreadyGrouped { cell: b });
-        }
-        Ok(())
+        self.check_free(a)?;
+        self.check_free(b)
     }
 
     /// Makes `a` and `b` mates of each other.
@@ -79,12 +83,8 @@ impl Group {
         ensures count { self.new.count ≡ self.old.count }
         ensures mates { MatchResult result (λ _. (x : ℕ) → mate_of self.new x ≡ centred a (mate_of self.old) x) (λ _. (x : ℕ) → mate_of self.new x ≡ mate_of self.old x) }
     {
-        if a >= self.count {
-            return Err(SheetFault::NoSuchCell { cell: a });
-        }
-        if self.partner(a).is_some() {
-            return Err(SheetFault::AlreadyGrouped { cell: a });
-        }
+        self.check_cell(a)?;
+        self.check_free(a)?;
         self.partner[a] = Some(a as u8);
         Ok(())
     }
@@ -95,9 +95,7 @@ impl Group {
         ensures count { self.new.count ≡ self.old.count }
         ensures mates { MatchResult result (λ _. (x : ℕ) → mate_of self.new x ≡ freed a (mate_of self.old) x) (λ _. (x : ℕ) → mate_of self.new x ≡ mate_of self.old x) }
     {
-        if a >= self.count {
-            return Err(SheetFault::NoSuchCell { cell: a });
-        }
+        self.check_cell(a)?;
         let Some(mate) = self.partner(a) else {
             return Err(SheetFault::NotGrouped { cell: a });
         };

@@ -1,9 +1,10 @@
 //! The symmetry group: which cells mirror each other about the axis, and whether their order lets them.
 #![tactic(auto)]
 
+mod arrangement;
 mod couples;
 mod edits;
 mod table;
 
-pub use couples::first_forbidden;
+pub use arrangement::Arrangement;
 pub use table::Group;

@@ -1,5 +1,5 @@
 -- The graph across: what is linked is what precedes, by numbers; its paths are short, and its nodes light.
-use Rattle.std.proofs.Common.{◌≡◌, ℕ, ◌+◌, ◌*◌, ◌<◌, ◌⊎◌, Option, sym, refl, ap, ◌∙◌, subst, subst₂, inl, inr, arith}
+use Rattle.std.proofs.Common.{◌≡◌, ℕ, ◌+◌, ◌*◌, ◌<◌, sym, refl, ap, ◌∙◌, subst, subst₂, inl, inr, arith}
 use Rattle.book.specs.Order.{LeftOf}
 use Rattle.length.specs.Kind.{Kind, Laws}
 use Rattle.placement.specs.Meaning.{Meaning, Cell, Lawful}
@@ -11,7 +11,7 @@ use Rattle.graph.specs.Steps.{Step, Stepless}
 use Rattle.graph.specs.Heaviest.{Short, Light}
 use Rattle.placing.specs.Adding.{Adds}
 use Rattle.placing.specs.Codes.{node_of, image_of}
-use Rattle.placing.specs.Graphs.{Sides}
+use Rattle.placing.specs.Graphs.{Sides, SideOf, SidesBy}
 use Rattle.placing.specs.Values.{AllSizes}
 use Rattle.placing.proofs.Adding.{Below, adds_like}
 use Rattle.placing.proofs.NodeCodes.{code, low, high, number, low_is_cell, high_is_image, code_of_node}
@@ -22,19 +22,8 @@ use Rattle.placing.proofs.LongestChain.{as_wide_as_cell}
 abbrev pub facing_number : Meaning → ℕ → ℕ
 facing_number m a = image_of m.order.count a (m.mate a)
 
--- the two steps that a left of b gives, by the number of cells and their mates
-abbrev pub SideOver : ℕ → (ℕ → Option ℕ) → ℕ → ℕ → ℕ → ℕ → Type 0
-SideOver n mate a b x y = ((x ≡ b) × (y ≡ a)) ⊎ ((x ≡ image_of n a (mate a)) × (y ≡ image_of n b (mate b)))
-
-abbrev pub SideOf : Meaning → ℕ → ℕ → ℕ → ℕ → Type 0
-SideOf m = SideOver m.order.count m.mate
-
 abbrev pub SideTo : Meaning → ℕ → ℕ → ℕ → ℕ → Type 0
-SideTo m a b x y = LeftOf m.order a b × SideOf m a b x y
-
--- all that a gives
-abbrev pub SidesBy : Meaning → ℕ → ℕ → ℕ → Type 0
-SidesBy m a x y = (b : ℕ) × LeftOf m.order a b × SideOf m a b x y
+SideTo m a b x y = LeftOf m.order a b × SideOf m.order.count m.mate a b x y
 
 pub sides_by_all : (m : Meaning) {g h : Graph} (a : ℕ) → Adds g h (Below m.order.count (SideTo m a)) → Adds g h (SidesBy m a)
 sides_by_all m a so =

@@ -12,17 +12,13 @@ use Rattle.graph.specs.declared.graph.Graph.{Graph}
 use Rattle.graph.specs.Steps.{Step, Stepless}
 use Rattle.graph.specs.Heaviest.{Heaviest, Short, Light}
 use Rattle.placing.specs.Adding.{Adds}
-use Rattle.placing.specs.Graphs.{Falls}
+use Rattle.placing.specs.Graphs.{Falls, FallsBy}
 use Rattle.placing.specs.Reach.{Reached}
 use Rattle.placing.specs.Values.{AllSizes, GivenDown}
 use Rattle.placing.proofs.Adding.{Below, adds_like}
 use Rattle.placing.proofs.HeaviestSteps.{path_same}
 
--- the steps that the cell a gives: from it and from its mate, to each cell below it
-abbrev pub FallsBy : Meaning → ℕ → ℕ → ℕ → Type 0
-FallsBy m a x y = AboveOf m.order a y × ((x ≡ a) ⊎ (m.mate a ≡ Some x))
-
--- those of them that lead to b
+-- of the steps that the cell a gives, those that lead to b
 abbrev pub FallTo : Meaning → ℕ → ℕ → ℕ → ℕ → Type 0
 FallTo m a b x y = AboveOf m.order a b × (((x ≡ a) ⊎ (m.mate a ≡ Some x)) × (y ≡ b))
 

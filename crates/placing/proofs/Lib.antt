@@ -1,4 +1,3 @@
-pub mod LawfulSheet
 pub mod JoinsBelow
 pub mod NodeCodes
 pub mod HeaviestSteps
@@ -18,4 +17,5 @@ pub mod WorkList
 pub mod RoomAcross
 pub mod LawfulSizes
 pub mod OneFault
-pub mod PlacingOutcomes
+pub mod AnyCell
+pub mod InStep

@@ -6,3 +6,4 @@ pub mod Reach
 pub mod Values
 pub mod Sizes
 pub mod Placing
+pub mod Lent

@@ -28,10 +28,14 @@ Fitting n l = Lists n (length l.widths) (length l.heights) (length l.work) (leng
 abbrev pub Misfitting : {V : Type 0} → ℕ → Five V → SheetFault → Type 0
 Misfitting n l = NoLists n (length l.widths) (length l.heights) (length l.work) (length l.x) (length l.y)
 
--- Lists that hold the placement of the rule: the work list has in of each cell and, from entry n on, of each image; x, y
--- and the half-span are a placement; and no placement with these sizes has a lower bottom edge or a smaller half-span.
+-- the lists have the values of the rule: the work list has in of each cell and, from entry n on, of each image
+abbrev pub GivenIn : {V : Type 0} → Kind V → Meaning → Five V → Extent V → Type 0
+GivenIn k m l e = Given k m (entries k l.widths) (entries k l.heights) (entries k l.work) (λ a. entries k l.work (m.order.count + a)) (entries k l.x) (entries k l.y) e.half_span e.depth
+
+-- Lists that hold the placement of the rule: they have its values; x, y and the half-span are a placement; and no placement
+-- with these sizes has a lower bottom edge or a smaller half-span.
 pub record Placed {V : Type 0} (k : Kind V) (m : Meaning) (l : Five V) (e : Extent V) : Type 0 where
-  pub given : Given k m (entries k l.widths) (entries k l.heights) (entries k l.work) (λ a. entries k l.work (m.order.count + a)) (entries k l.x) (entries k l.y) e.half_span e.depth
+  pub given : GivenIn k m l e
   pub placement : Placement k m (entries k l.widths) (entries k l.heights) (entries k l.x) (entries k l.y) e.half_span
   pub best : Best k m (entries k l.widths) (entries k l.heights) (entries k l.y) e.half_span
 

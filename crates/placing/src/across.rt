@@ -1,18 +1,19 @@
 //! What stands before and after each cell, and the longest chain: the heaviest paths of the graph in which each node, a
 //! cell or an image, steps to those that precede it.
-ghost use Rattle.std.specs.Prelude.{◌≡◌, ℕ, ◌+◌, ◌*◌, ◌<◌, ◌⊎◌, length, get_or, IsSomeAnd, IfSome, MatchOption, slice_index_or};
-ghost use Rattle.book.specs.Order.{LeftOf};
+ghost use Rattle.std.specs.Prelude.{◌≡◌, ℕ, ◌+◌, ◌*◌, ◌<◌, ◌⊎◌, length, IsSomeAnd, IfSome, MatchOption};
 ghost use Rattle.placement.specs.Couples.{Clean};
-ghost use Rattle.group.specs.Group.{mate_of, sheet_of};
+ghost use Rattle.group.specs.Group.{mate_of};
+ghost use Rattle.group.specs.Arranged.{meaning_of, count_of};
 ghost use Rattle.placing.specs.Adding.{Adds};
 ghost use Rattle.placing.specs.Codes.{image_of, mirrored};
-ghost use Rattle.placing.specs.Graphs.{Sides};
+ghost use Rattle.placing.specs.Graphs.{Sides, SideOf, SidesBy};
+ghost use Rattle.placing.specs.Sizes.{entries};
 ghost use Rattle.placing.specs.Values.{AllSizes, GivenAcross, GivenNodes, SmallAcross};
 
 use crate::reach::reach;
 use book::{Book, is_left};
 use graph::Graph;
-use group::Group;
+use group::{Arrangement, Group};
 use length::Length;
 
 /// The number of the image of `a`: its mate, or for a free cell a number past all cells.
@@ -31,34 +32,32 @@ fn image_number(group: &Group, a: usize) -> usize
 fn link_side(group: &Group, graph: &mut Graph, a: usize, b: usize)
     requires nodes { graph.old.nodes ≡ 2 * group.now.count }
     requires cells { (a < group.now.count) × (b < group.now.count) }
-    ensures { Adds graph.old graph.new (λ x y. ((x ≡ b) × (y ≡ a)) ⊎ ((x ≡ image_of group.now.count a (mate_of group.now a)) × (y ≡ image_of group.now.count b (mate_of group.now b)))) }
+    ensures { Adds graph.old graph.new (SideOf group.now.count (mate_of group.now) a b) }
 {
     graph.link(b, a);
     graph.link(image_number(group, a), image_number(group, b));
 }
 
 /// Adds the steps for each cell that `a` is left of.
-fn link_sides<B: Book>(book: &B, group: &Group, graph: &mut Graph, a: usize)
-    requires counts { group.now.count ≡ (B.Book.order book.now).count }
-    requires nodes { graph.old.nodes ≡ 2 * (B.Book.order book.now).count }
-    ensures { Adds graph.old graph.new (λ x y. (b : ℕ) × LeftOf (B.Book.order book.now) a b × (((x ≡ b) × (y ≡ a)) ⊎ ((x ≡ image_of (B.Book.order book.now).count a (mate_of group.now a)) × (y ≡ image_of (B.Book.order book.now).count b (mate_of group.now b))))) }
+fn link_sides<B: Book>(cells: &Arrangement<B>, graph: &mut Graph, a: usize)
+    requires { graph.old.nodes ≡ 2 * count_of cells.now }
+    ensures { Adds graph.old graph.new (SidesBy (meaning_of cells.now) a) }
 {
-    for b in 0..book.count() {
-        if is_left(book, a, b) {
-            link_side(group, graph, a, b);
+    for b in 0..cells.book.count() {
+        if is_left(cells.book, a, b) {
+            link_side(cells.group, graph, a, b);
         }
     }
 }
 
 /// The graph of the nodes with steps to those that precede each; never `None`, since so many nodes are not too many.
-fn sides<B: Book>(book: &B, group: &Group) -> Option<Graph>
-    requires { group.now.count ≡ (B.Book.order book.now).count }
-    ensures { MatchOption result ⊥ (λ g. Sides (sheet_of (B.Book.order book.now) group.now) g) }
+fn sides<B: Book>(cells: &Arrangement<B>) -> Option<Graph>
+    ensures { MatchOption result ⊥ (λ g. Sides (meaning_of cells.now) g) }
 {
-    let n = book.count();
+    let n = cells.book.count();
     let mut graph = Graph::new(2 * n)?;
     for a in 0..n {
-        link_sides(book, group, &mut graph, a);
+        link_sides(cells, &mut graph, a);
     }
     Some(graph)
 }
@@ -66,18 +65,16 @@ fn sides<B: Book>(book: &B, group: &Group) -> Option<Graph>
 /// Writes for each node the join of the chains into it, and answers the longest chain. An image is as wide as its cell, so
 /// the widths are dealt out again.
 fn node_values<B: Book, T: Length>(
-    book: &B,
-    group: &Group,
+    cells: &Arrangement<B>,
     widths: &[T],
     values: &mut [T],
 ) -> Option<T>
-    requires counts { group.now.count ≡ (B.Book.order book.now).count }
-    requires widths { length widths.now ≡ (B.Book.order book.now).count }
-    requires values { length values.old ≡ 2 * (B.Book.order book.now).count }
-    ensures found { IfSome result (λ d. GivenNodes T.Length.kind (sheet_of (B.Book.order book.now) group.now) (λ a. get_or widths.now a T.kind.zero) (λ u. get_or values.new u T.kind.zero) d) }
-    ensures finishes { Clean (sheet_of (B.Book.order book.now) group.now) → AllSizes T.Length.kind (sheet_of (B.Book.order book.now) group.now) (λ a. get_or widths.now a T.kind.zero) → IsSomeAnd result (λ d. SmallAcross T.Length.kind (sheet_of (B.Book.order book.now) group.now) (2 * (B.Book.order book.now).count) (λ u. get_or values.new u T.kind.zero) d) }
+    requires widths { length widths.now ≡ count_of cells.now }
+    requires values { length values.old ≡ 2 * count_of cells.now }
+    ensures found { IfSome result (λ d. GivenNodes T.Length.kind (meaning_of cells.now) (entries T.kind widths.now) (entries T.kind values.new) d) }
+    ensures finishes { Clean (meaning_of cells.now) → AllSizes T.Length.kind (meaning_of cells.now) (entries T.kind widths.now) → IsSomeAnd result (λ d. SmallAcross T.Length.kind (meaning_of cells.now) (2 * count_of cells.now) (entries T.kind values.new) d) }
 {
-    let graph = sides(book, group)?;
+    let graph = sides(cells)?;
     reach(&graph, widths, values)
 }
 
@@ -85,11 +82,11 @@ fn node_values<B: Book, T: Length>(
 fn mirror_images<T: Length>(group: &Group, values: &[T], images: &mut [T])
     requires values { length values.now ≡ group.now.count }
     requires images { length images.old ≡ group.now.count }
-    ensures { (a : ℕ) → a < group.now.count → slice_index_or images.new a T.kind.zero ≡ mirrored (slice_index_or images.old a T.kind.zero) (λ b. get_or values.now b T.kind.zero) (mate_of group.now a) }
+    ensures { (a : ℕ) → a < group.now.count → entries T.kind images.new a ≡ mirrored (entries T.kind images.old a) (entries T.kind values.now) (mate_of group.now a) }
 {
-    for a in 0..group.count() {
+    for (a, image) in images.iter_mut().enumerate() {
         if let Some(mate) = group.partner(a) {
-            images[a] = values[mate];
+            *image = values[mate];
         }
     }
 }
@@ -99,23 +96,21 @@ fn mirror_images<T: Length>(group: &Group, values: &[T], images: &mut [T])
 ///
 /// `room` is for one length a cell; what it has afterwards means nothing.
 pub(crate) fn chains<B: Book, T: Length>(
-    book: &B,
-    group: &Group,
+    cells: &Arrangement<B>,
     widths: &[T],
     work: &mut [T],
     room: &mut [T],
 ) -> Option<T>
-    requires counts { group.now.count ≡ (B.Book.order book.now).count }
-    requires widths { length widths.now ≡ (B.Book.order book.now).count }
-    requires work { length work.old ≡ 2 * (B.Book.order book.now).count }
-    requires room { length room.old ≡ (B.Book.order book.now).count }
-    ensures found { IfSome result (λ d. GivenAcross T.Length.kind (sheet_of (B.Book.order book.now) group.now) (λ a. get_or widths.now a T.kind.zero) (λ a. get_or work.new a T.kind.zero) (λ a. get_or work.new ((B.Book.order book.now).count + a) T.kind.zero) d) }
-    ensures finishes { Clean (sheet_of (B.Book.order book.now) group.now) → AllSizes T.Length.kind (sheet_of (B.Book.order book.now) group.now) (λ a. get_or widths.now a T.kind.zero) → IsSomeAnd result (λ d. SmallAcross T.Length.kind (sheet_of (B.Book.order book.now) group.now) (B.Book.order book.now).count (λ a. get_or work.new a T.kind.zero) d) }
+    requires widths { length widths.now ≡ count_of cells.now }
+    requires work { length work.old ≡ 2 * count_of cells.now }
+    requires room { length room.old ≡ count_of cells.now }
+    ensures found { IfSome result (λ d. GivenAcross T.Length.kind (meaning_of cells.now) (entries T.kind widths.now) (entries T.kind work.new) (λ a. entries T.kind work.new (count_of cells.now + a)) d) }
+    ensures finishes { Clean (meaning_of cells.now) → AllSizes T.Length.kind (meaning_of cells.now) (entries T.kind widths.now) → IsSomeAnd result (λ d. SmallAcross T.Length.kind (meaning_of cells.now) (count_of cells.now) (entries T.kind work.new) d) }
 {
-    let n = book.count();
-    let longest = node_values(book, group, widths, work)?;
+    let n = cells.book.count();
+    let longest = node_values(cells, widths, work)?;
     // the images are written while the cells are read, so these stand elsewhere meanwhile
     room.copy_from_slice(&work[0..n]);
-    mirror_images(group, room, &mut work[n..]);
+    mirror_images(cells.group, room, &mut work[n..]);
     Some(longest)
 }

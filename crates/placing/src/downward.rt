@@ -1,16 +1,17 @@
 //! The bottoms and the depth: the heaviest paths of the graph in which each cell steps to those under it.
-ghost use Rattle.std.specs.Prelude.{◌≡◌, ◌<◌, ◌⊎◌, length, Some, MatchOption, slice_index_or};
-ghost use Rattle.book.specs.Order.{AboveOf};
+ghost use Rattle.std.specs.Prelude.{◌≡◌, ◌<◌, ◌⊎◌, length, Some, MatchOption};
 ghost use Rattle.placement.specs.Couples.{Clean};
-ghost use Rattle.group.specs.Group.{mate_of, sheet_of};
+ghost use Rattle.group.specs.Group.{mate_of};
+ghost use Rattle.group.specs.Arranged.{meaning_of, count_of};
 ghost use Rattle.placing.specs.Adding.{Adds};
-ghost use Rattle.placing.specs.Graphs.{Falls};
+ghost use Rattle.placing.specs.Graphs.{Falls, FallsBy};
+ghost use Rattle.placing.specs.Sizes.{entries};
 ghost use Rattle.placing.specs.Values.{AllSizes, GivenDown};
 
 use crate::reach::reach;
 use book::{Book, is_above};
 use graph::Graph;
-use group::Group;
+use group::{Arrangement, Group};
 use length::Length;
 
 /// Adds the steps to `b` from `a` and from its mate.
@@ -26,43 +27,39 @@ fn link_fall(group: &Group, graph: &mut Graph, a: usize, b: usize)
 }
 
 /// Adds the steps from `a` and from its mate to each cell below `a`.
-fn link_falls<B: Book>(book: &B, group: &Group, graph: &mut Graph, a: usize)
-    requires counts { group.now.count ≡ (B.Book.order book.now).count }
-    requires nodes { graph.old.nodes ≡ (B.Book.order book.now).count }
-    ensures { Adds graph.old graph.new (λ x y. AboveOf (B.Book.order book.now) a y × ((x ≡ a) ⊎ (mate_of group.now a ≡ Some x))) }
+fn link_falls<B: Book>(cells: &Arrangement<B>, graph: &mut Graph, a: usize)
+    requires { graph.old.nodes ≡ count_of cells.now }
+    ensures { Adds graph.old graph.new (FallsBy (meaning_of cells.now) a) }
 {
-    for b in 0..book.count() {
-        if is_above(book, a, b) {
-            link_fall(group, graph, a, b);
+    for b in 0..cells.book.count() {
+        if is_above(cells.book, a, b) {
+            link_fall(cells.group, graph, a, b);
         }
     }
 }
 
 /// The graph of the cells with steps to those under each; never `None`, since so many nodes are not too many.
-fn falls<B: Book>(book: &B, group: &Group) -> Option<Graph>
-    requires { group.now.count ≡ (B.Book.order book.now).count }
-    ensures { MatchOption result ⊥ (λ g. Falls (sheet_of (B.Book.order book.now) group.now) g) }
+fn falls<B: Book>(cells: &Arrangement<B>) -> Option<Graph>
+    ensures { MatchOption result ⊥ (λ g. Falls (meaning_of cells.now) g) }
 {
-    let n = book.count();
+    let n = cells.book.count();
     let mut graph = Graph::new(n)?;
     for a in 0..n {
-        link_falls(book, group, &mut graph, a);
+        link_falls(cells, &mut graph, a);
     }
     Some(graph)
 }
 
 /// Writes the bottoms to `y`, and answers the depth; always `Some` where no couple is forbidden and all heights are sizes.
 pub(crate) fn bottoms<B: Book, T: Length>(
-    book: &B,
-    group: &Group,
+    cells: &Arrangement<B>,
     heights: &[T],
     y: &mut [T],
 ) -> Option<T>
-    requires counts { group.now.count ≡ (B.Book.order book.now).count }
-    requires heights { length heights.now ≡ (B.Book.order book.now).count }
-    requires y { length y.old ≡ (B.Book.order book.now).count }
-    ensures { MatchOption result (Clean (sheet_of (B.Book.order book.now) group.now) → AllSizes T.Length.kind (sheet_of (B.Book.order book.now) group.now) (λ a. slice_index_or heights.now a T.kind.zero) → ⊥) (λ d. GivenDown T.Length.kind (sheet_of (B.Book.order book.now) group.now) (λ a. slice_index_or heights.now a T.kind.zero) (λ a. slice_index_or y.new a T.kind.zero) d) }
+    requires heights { length heights.now ≡ count_of cells.now }
+    requires y { length y.old ≡ count_of cells.now }
+    ensures { MatchOption result (Clean (meaning_of cells.now) → AllSizes T.Length.kind (meaning_of cells.now) (entries T.kind heights.now) → ⊥) (λ d. GivenDown T.Length.kind (meaning_of cells.now) (entries T.kind heights.now) (entries T.kind y.new) d) }
 {
-    let graph = falls(book, group)?;
+    let graph = falls(cells)?;
     reach(&graph, heights, y)
 }

@@ -4,11 +4,13 @@
 mod across;
 mod downward;
 mod edges;
+mod lists;
 mod placed;
 mod reach;
 mod sizes;
 mod values;
 
+pub use lists::Lists;
 pub use placed::place;
 pub use sizes::checks_are_exact;
 pub use values::Extent;

@@ -1,5 +1,5 @@
 //! The checks that a placing makes before it computes anything: the lengths of its lists, and the sizes in them.
-ghost use Rattle.std.specs.Prelude.{◌≡◌, ℕ, ◌<◌, Some, Decides, Option, MatchResult};
+ghost use Rattle.std.specs.Prelude.{◌≡◌, ℕ, ◌<◌, length, Some, Decides, Option, MatchResult};
 ghost use Rattle.group.specs.Group.{mate_of};
 ghost use Rattle.placing.specs.Sizes.{Lists, NoLists, entries, Each, Sized, Agree, Matched, Balanced, Unlawful, Fit, ListsExact, SizesExact};
 
@@ -48,18 +48,7 @@ pub(crate) fn check_lists(
     Ok(())
 }
 
-/// The length that a list has for `cell`; zero past its end.
-fn of_cell<T: Length>(list: &[T], cell: usize) -> T
-    ensures { result ≡ entries T.kind list.now cell }
-{
-    if cell < list.len() {
-        list[cell]
-    } else {
-        T::zero()
-    }
-}
-
-/// Whether two lengths are equal.
+/// Whether two lengths are equal. (A kind of length need not have `==`: its order tells.)
 fn alike<T: Length>(a: T, b: T) -> bool
     ensures { Decides result (a ≡ b) }
 {
@@ -68,23 +57,26 @@ fn alike<T: Length>(a: T, b: T) -> bool
 
 /// Whether `a` and `b` are equally wide and equally high.
 fn agree<T: Length>(widths: &[T], heights: &[T], a: usize, b: usize) -> bool
+    requires widths { (a < length widths.now) × (b < length widths.now) }
+    requires heights { (a < length heights.now) × (b < length heights.now) }
     ensures { let w = entries T.kind widths.now in let h = entries T.kind heights.now in Decides result (Agree w h a b) }
 {
-    alike(of_cell(widths, a), of_cell(widths, b)) && alike(of_cell(heights, a), of_cell(heights, b))
+    alike(widths[a], widths[b]) && alike(heights[a], heights[b])
 }
 
-/// Checks that the width and the height of each of `n` cells are sizes.
-fn check_each<T: Length>(n: usize, widths: &[T], heights: &[T]) -> Result<(), SheetFault>
-    ensures { let w = entries T.kind widths.now in let h = entries T.kind heights.now in MatchResult result (λ _. Each n (Sized T.kind w h)) (λ f. (mate : ℕ → Option ℕ) → Unlawful T.kind mate n w h f) }
+/// Checks that the width and the height of each cell are sizes.
+fn check_each<T: Length>(widths: &[T], heights: &[T]) -> Result<(), SheetFault>
+    requires { length widths.now ≡ length heights.now }
+    ensures { let n = length widths.now in let w = entries T.kind widths.now in let h = entries T.kind heights.now in MatchResult result (λ _. Each n (Sized T.kind w h)) (λ f. (mate : ℕ → Option ℕ) → Unlawful T.kind mate n w h f) }
 {
-    for cell in 0..n {
-        if !of_cell(widths, cell).is_size() {
+    for (cell, (width, height)) in widths.iter().zip(heights).enumerate() {
+        if !width.is_size() {
             return Err(SheetFault::NotASize {
                 cell,
                 side: Side::Width,
             });
         }
-        if !of_cell(heights, cell).is_size() {
+        if !height.is_size() {
             return Err(SheetFault::NotASize {
                 cell,
                 side: Side::Height,
@@ -96,6 +88,8 @@ fn check_each<T: Length>(n: usize, widths: &[T], heights: &[T]) -> Result<(), Sh
 
 /// Checks that mates agree, where all are sizes.
 fn check_pairs<T: Length>(group: &Group, widths: &[T], heights: &[T]) -> Result<(), SheetFault>
+    requires widths { length widths.now ≡ group.now.count }
+    requires heights { length heights.now ≡ group.now.count }
     ensures { let g = group.now in let w = entries T.kind widths.now in let h = entries T.kind heights.now in MatchResult result (λ _. Each g.count (Matched (mate_of g) w h)) (λ f. Each g.count (Sized T.kind w h) → Unlawful T.kind (mate_of g) g.count w h f) }
 {
     for cell in 0..group.count() {
@@ -118,10 +112,11 @@ fn is_centred(group: &Group, cell: usize) -> bool
 
 /// Checks that centred widths are even, where mates agree and all are sizes.
 fn check_centres<T: Length>(group: &Group, widths: &[T]) -> Result<(), SheetFault>
+    requires { length widths.now ≡ group.now.count }
     ensures { let g = group.now in let w = entries T.kind widths.now in MatchResult result (λ _. Each g.count (Balanced T.kind (mate_of g) w)) (λ f. (h : ℕ → T) → Each g.count (Sized T.kind w h) → Each g.count (Matched (mate_of g) w h) → Unlawful T.kind (mate_of g) g.count w h f) }
 {
-    for cell in 0..group.count() {
-        if is_centred(group, cell) && !of_cell(widths, cell).is_even() {
+    for (cell, width) in widths.iter().enumerate() {
+        if is_centred(group, cell) && !width.is_even() {
             return Err(SheetFault::OddCentre { cell });
         }
     }
@@ -135,9 +130,11 @@ pub(crate) fn check_sizes<T: Length>(
     widths: &[T],
     heights: &[T],
 ) -> Result<(), SheetFault>
+    requires widths { length widths.now ≡ group.now.count }
+    requires heights { length heights.now ≡ group.now.count }
     ensures { let g = group.now in let w = entries T.kind widths.now in let h = entries T.kind heights.now in MatchResult result (λ _. Fit T.kind g w h) (λ f. Unlawful T.kind (mate_of g) g.count w h f) }
 {
-    check_each(group.count(), widths, heights)?;
+    check_each(widths, heights)?;
     check_pairs(group, widths, heights)?;
     check_centres(group, widths)
 }

@@ -1,7 +1,5 @@
 pub mod Same
 pub mod Outcomes
-pub mod Restored
-pub mod TakenBack
 pub mod Released
 pub mod SwapChecks
 pub mod Running

@@ -1,51 +1,34 @@
 -- What an edit comes to, by what the search for a forbidden couple found in the sheet as the edit left it.
-use Rattle.std.proofs.Common.{◌≡◌, ℕ, Ok, Err}
+use Rattle.std.proofs.Common.{◌≡◌, ℕ, Ok, Err, Result, sym, ap, ◌∙◌}
 use Rattle.refusal.specs.declared.fault.SheetFault.{SheetFault}
-use Rattle.refusal.specs.declared.fault.SheetFault.TheVariants.{Unplaceable}
-use Rattle.book.specs.Order.{Order, Laws}
 use Rattle.placement.specs.Meaning.{Meaning, Lawful}
-use Rattle.placement.specs.Couples.{Clean, First}
-use Rattle.placement.specs.Placements.{Placeable}
+use Rattle.placement.specs.Couples.{Clean}
 use Rattle.placement.specs.Theorems.{CleanExactlyPlaceable}
+use Rattle.book.specs.Order.{Order}
 use Rattle.group.specs.declared.table.Group.{Group}
 use Rattle.group.specs.Group.{sheet_of}
-use Rattle.placing.proofs.LawfulSheet.{lawful_sheet}
 use Rattle.sheet.specs.Sheets.{SameSheet, Sound}
-use Rattle.sheet.specs.Edits.{Edit, unfit, unplaceable, done, after, checked, Outcome}
-use Rattle.sheet.proofs.Same.{same_refl, same_sym, lawful_back, clean_back, first_back}
+use Rattle.sheet.specs.Edits.{Edit, Edited, unplaceable, done, after, checked, TellsFirst, first}
+use Rattle.sheet.proofs.Same.{same_sym, lawful_there, clean_there, first_there}
 
-module _ (theorem : CleanExactlyPlaceable) where
-  pub clean_placeable : {m p : Meaning} → SameSheet m p → Lawful p → Clean p → Placeable m
-  clean_placeable {m} {p} same lawful clean = (theorem m (lawful_back same lawful)).0 (clean_back same clean)
+-- a sheet that means what a sound one means is sound
+pub sound_there : {o q : Order} {g h : Group} → SameSheet (sheet_of o g) (sheet_of q h) → h.count ≡ q.count → Sound o g → Sound q h
+sound_there same counts sound = record { counts = counts; clean = clean_there same sound.clean }
 
-  pub first_unplaceable : {m p : Meaning} {x y : ℕ} → SameSheet m p → Lawful p → First p x y → Placeable m → ⊥
-  first_unplaceable {m} {p} {x} {y} same lawful first has =
-      (theorem m (lawful_back same lawful)).1 has x y (first_back same first).here
+-- the group's checks, which go by its own count, are those of the sheet
+pub of_sheet : {o : Order} {g : Group} → Sound o g → (check : ℕ → Result (Unit {0}) SheetFault) → {r : Result (Unit {0}) SheetFault} → r ≡ check g.count → check o.count ≡ r
+of_sheet sound check answer = sym (answer ∙ ap check sound.counts)
 
+module _ (theorem : CleanExactlyPlaceable) {m p : Meaning} {e : Edit} (fit : checked m e ≡ Ok tt) (same : SameSheet (after m e) p) (lawful : Lawful p) where
   -- the sheet as the edit left it is clean
-  pub done_outcome : (o : Order) (g : Group) (e : Edit) (q : Order) (h : Group) → (Sound o g → checked (sheet_of o g) e ≡ Ok tt) → Laws q → (g.count ≡ o.count → h.count ≡ q.count) → SameSheet (after (sheet_of o g) e) (sheet_of q h) → (Sound o g → Clean (sheet_of q h)) → Outcome o g e q h (Ok tt)
-  done_outcome o g e q h check laws counts same clean = record {
-    leaves = same;
-    edited = λ s. done (check s) (clean_placeable same (lawful_sheet q h laws (counts s.counts)) (clean s)) same;
-    sound = λ s. record { counts = counts s.counts; clean = clean s };
-  }
+  pub done_edit : Clean p → Edited m e p (Ok tt)
+  done_edit clean =
+      let back = same_sym same in
+      done fit ((theorem (after m e) (lawful_there back lawful)).0 (clean_there back clean)) same
 
-  -- a couple was forbidden in the sheet as the edit would leave it (its order i and group j), and all was put back
-  pub unplaceable_outcome : (o : Order) (g : Group) (e : Edit) (q : Order) (h : Group) (i : Order) (j : Group) (x y : ℕ) → (Sound o g → checked (sheet_of o g) e ≡ Ok tt) → Laws i → (g.count ≡ o.count → j.count ≡ i.count) → SameSheet (after (sheet_of o g) e) (sheet_of i j) → First (sheet_of i j) x y → (g.count ≡ o.count → h.count ≡ q.count) → SameSheet (sheet_of o g) (sheet_of q h) → Outcome o g e q h (Err (Unplaceable x y))
-  unplaceable_outcome o g e q h i j x y check laws counts same first back_counts back = record {
-    leaves = back;
-    edited = λ s. unplaceable (check s) (first_unplaceable same (lawful_sheet i j laws (counts s.counts)) first) (first_back same first) back;
-    sound = λ s. record { counts = back_counts s.counts; clean = clean_back (same_sym back) s.clean };
-  }
-
--- a check failed, and nothing changed
-pub unfit_outcome : (o : Order) (g : Group) (e : Edit) (q : Order) (h : Group) (f : SheetFault) → (Sound o g → checked (sheet_of o g) e ≡ Err f) → (g.count ≡ o.count → h.count ≡ q.count) → SameSheet (sheet_of o g) (sheet_of q h) → Outcome o g e q h (Err f)
-unfit_outcome o g e q h f check counts same = record {
-  leaves = same;
-  edited = λ s. unfit (check s) same;
-  sound = λ s. record { counts = counts s.counts; clean = clean_back (same_sym same) s.clean };
-}
-
--- where nothing was even tried
-pub untouched_outcome : (o : Order) (g : Group) (e : Edit) (f : SheetFault) → (Sound o g → checked (sheet_of o g) e ≡ Err f) → Outcome o g e o g (Err f)
-untouched_outcome o g e f check = unfit_outcome o g e o g f check (λ k. k) (same_refl _)
+  -- a couple was forbidden in the sheet as the edit left it, and all was put back
+  pub undone_edit : {q : Meaning} {f : SheetFault} → TellsFirst p f → SameSheet m q → Edited m e q (Err f)
+  undone_edit (first {x} {y} told) restored =
+      let back = same_sym same in
+      let couple = first_there back told in
+      unplaceable fit (λ has. (theorem (after m e) (lawful_there back lawful)).1 has x y couple.here) couple restored

@@ -1,5 +1,5 @@
 -- The edits of a sheet: what each would leave, its checks, and what it comes to.
-use Rattle.std.specs.Prelude.{◌≡◌, ℕ, cond, Ok, Err, Result, MatchResult, ◌==◌}
+use Rattle.std.specs.Prelude.{◌≡◌, ℕ, cond, Ok, Err, Result, ◌==◌}
 use Rattle.refusal.specs.declared.fault.SheetFault.{SheetFault}
 use Rattle.refusal.specs.declared.fault.SheetFault.TheVariants.{SameCell, Unplaceable}
 use Rattle.book.specs.Order.{Order, swapped}
@@ -10,7 +10,7 @@ use Rattle.placement.specs.Placements.{Placeable}
 use Rattle.group.specs.Edits.{nobody, paired, centred, freed, pair_check, centre_check, release_check}
 use Rattle.group.specs.declared.table.Group.{Group}
 use Rattle.group.specs.Group.{sheet_of}
-use Rattle.sheet.specs.Sheets.{SameSheet, Sound}
+use Rattle.sheet.specs.Sheets.{SameSheet}
 
 pub data Edit : Type 0 where
   swap : ℕ → ℕ → Edit
@@ -44,9 +44,15 @@ pub data Edited (m : Meaning) (e : Edit) (p : Meaning) : Result (Unit {0}) Sheet
   unplaceable : {x y : ℕ} → checked m e ≡ Ok tt → (Placeable (after m e) → ⊥) → First (after m e) x y → SameSheet m p → Edited m e p (Err (Unplaceable x y))
   done : checked m e ≡ Ok tt → Placeable (after m e) → SameSheet (after m e) p → Edited m e p (Ok tt)
 
--- An edit's whole promise, where o and g are the book's order and the group before it, and q and h afterwards: done, it
--- leaves the sheet so, and refused, as it was; on a sound sheet it comes to what `Edited` says, and leaves a sound one.
-pub record Outcome (o : Order) (g : Group) (e : Edit) (q : Order) (h : Group) (r : Result (Unit {0}) SheetFault) : Type 0 where
-  pub leaves : MatchResult r (λ _. SameSheet (after (sheet_of o g) e) (sheet_of q h)) (λ _. SameSheet (sheet_of o g) (sheet_of q h))
-  pub edited : Sound o g → Edited (sheet_of o g) e (sheet_of q h) r
-  pub sound : Sound o g → Sound q h
+-- An edit's promise, where o and g are the book's order and the group before it, and q and h afterwards.
+abbrev pub Outcome : Order → Group → Edit → Order → Group → Result (Unit {0}) SheetFault → Type 0
+Outcome o g e q h r = Edited (sheet_of o g) e (sheet_of q h) r
+
+-- The sheet of o and g was given the group j: whatever edit makes this group and passes its checks comes to what is
+-- promised of it.
+abbrev pub Regrouped : Order → Group → Group → Order → Group → Result (Unit {0}) SheetFault → Type 0
+Regrouped o g j q h r = (e : Edit) → checked (sheet_of o g) e ≡ Ok tt → SameSheet (after (sheet_of o g) e) (sheet_of o j) → Outcome o g e q h r
+
+-- the fault tells the first forbidden couple
+pub data TellsFirst (m : Meaning) : SheetFault → Type 0 where
+  first : {x y : ℕ} → First m x y → TellsFirst m (Unplaceable x y)

@@ -1,38 +1,58 @@
 //! Edits of a sheet: each is judged by the sheet as it would leave it.
-ghost use Rattle.std.specs.Prelude.{◌≡◌, MatchOption};
-ghost use Rattle.placement.specs.Couples.{Clean, First};
+ghost use Rattle.std.specs.Prelude.{◌≡◌, MatchResult};
+ghost use Rattle.placement.specs.Couples.{Clean};
 ghost use Rattle.placement.specs.Theorems.{CleanExactlyPlaceable};
-ghost use Rattle.group.specs.Group.{sheet_of};
-ghost use Rattle.sheet.specs.Edits.{Outcome, swap, pair, centre, release};
+ghost use Rattle.group.specs.Arranged.{meaning_of};
+ghost use Rattle.sheet.specs.Edits.{Outcome, Regrouped, TellsFirst, swap, pair, centre, release};
 
 use crate::sheet::Sheet;
-use book::{Book, within};
-use group::first_forbidden;
+use book::Book;
+use group::{Arrangement, Group};
 use placement::clean_exactly_placeable;
 use refusal::SheetFault;
 
+/// Refuses the sheet that the book and the group make up where some couple is forbidden, and tells the first; that is
+/// exactly where no lawful sizes have a placement.
+fn judge<B: Book>(cells: &Arrangement<B>) -> Result<(), SheetFault>
+    ensures couple { MatchResult result (λ _. Clean (meaning_of cells.now)) (TellsFirst (meaning_of cells.now)) }
+    ensures theorem { CleanExactlyPlaceable }
+{
+    clean_exactly_placeable();
+    match cells.first_forbidden() {
+        None => Ok(()),
+        Some((first, second)) => Err(SheetFault::Unplaceable { first, second }),
+    }
+}
+
 impl<B: Book> Sheet<B> {
-    /// The first forbidden couple; there is one exactly where no lawful sizes have a placement.
-    fn judge(&self) -> Option<(usize, usize)>
-        ensures couple { MatchOption result (Clean (sheet_of (B.Book.order self.now.book) self.now.group)) (λ p. First (sheet_of (B.Book.order self.now.book) self.now.group) p.0 p.1) }
-        ensures theorem { CleanExactlyPlaceable }
+    /// Takes `group` in place of the sheet's own, unless the sheet would have no placement then.
+    fn regroup(&mut self, group: Group) -> Result<(), SheetFault>
+        requires { group.count ≡ self.old.group.count }
+        ensures { Regrouped (B.Book.order self.old.book) self.old.group group (B.Book.order self.new.book) self.new.group result }
     {
-        clean_exactly_placeable();
-        first_forbidden(&self.book, &self.group)
+        let cells = Arrangement {
+            book: &self.book,
+            group: &group,
+        };
+        judge(&cells)?;
+        self.group = group;
+        Ok(())
     }
 
     /// Exchanges the names `a` and `b` in every relation; no mate changes.
     pub fn swap(&mut self, a: usize, b: usize) -> Result<(), SheetFault>
         ensures { Outcome (B.Book.order self.old.book) self.old.group (swap a b) (B.Book.order self.new.book) self.new.group result }
     {
-        within(self.book.count(), a, b)?;
-        if a == b {
-            return Err(SheetFault::SameCell { cell: a });
-        }
+        // what does not lie to each other is not swapped: a number that is no cell, or a cell and itself
+        self.book.relation(a, b)?;
         self.book.swap(a, b)?;
-        if let Some((first, second)) = self.judge() {
+        let cells = Arrangement {
+            book: &self.book,
+            group: &self.group,
+        };
+        if let Err(fault) = judge(&cells) {
             let _ = self.book.swap(a, b);
-            return Err(SheetFault::Unplaceable { first, second });
+            return Err(fault);
         }
         Ok(())
     }
@@ -41,24 +61,18 @@ impl<B: Book> Sheet<B> {
     pub fn pair(&mut self, a: usize, b: usize) -> Result<(), SheetFault>
         ensures { Outcome (B.Book.order self.old.book) self.old.group (pair a b) (B.Book.order self.new.book) self.new.group result }
     {
-        self.group.pair(a, b)?;
-        if let Some((first, second)) = self.judge() {
-            let _ = self.group.release(a);
-            return Err(SheetFault::Unplaceable { first, second });
-        }
-        Ok(())
+        let mut group = self.group;
+        group.pair(a, b)?;
+        self.regroup(group)
     }
 
     /// Makes `a` its own mate, centred on the axis.
     pub fn centre(&mut self, a: usize) -> Result<(), SheetFault>
         ensures { Outcome (B.Book.order self.old.book) self.old.group (centre a) (B.Book.order self.new.book) self.new.group result }
     {
-        self.group.centre(a)?;
-        if let Some((first, second)) = self.judge() {
-            let _ = self.group.release(a);
-            return Err(SheetFault::Unplaceable { first, second });
-        }
-        Ok(())
+        let mut group = self.group;
+        group.centre(a)?;
+        self.regroup(group)
     }
 
     /// Frees `a`, and its mate with it. (What had a placement has one with fewer mates.)

@@ -1,4 +1,6 @@
 //! Sheets: a book and a symmetry group over its cells, with edits that never leave a sheet without a placement.
+//!
+//! Every sheet is sound, by its type: its group is over the book's cells, and no couple is forbidden.
 #![tactic(auto)]
 
 mod edits;
@@ -10,7 +12,8 @@ mod sheet;
 mod state;
 mod steps;
 
+pub use placing::Lists;
 pub use runs::run;
-pub use sheet::Sheet;
+pub use sheet::{Sheet, every_sheet_is_sound};
 pub use state::State;
 pub use steps::{Answer, Coordinates, Step};

@@ -11,25 +11,10 @@ use book::Book;
 fn same_relation<B: Book, C: Book>(one: &B, other: &C, a: usize, b: usize) -> bool
     ensures { Decides result (AgreeOn (B.Book.order one.now) (C.Book.order other.now) a b) }
 {
-    let Ok(here) = one.relation(a, b) else {
-        return true;
-    };
-    let Ok(there) = other.relation(a, b) else {
-        return true;
-    };
-    there == here
-}
-
-/// Do both books tell the same of `a` and each of `n` cells?
-fn same_row<B: Book, C: Book>(one: &B, other: &C, a: usize, n: usize) -> bool
-    ensures { Decides result ((b : ℕ) → b < n → AgreeOn (B.Book.order one.now) (C.Book.order other.now) a b) }
-{
-    for b in 0..n {
-        if !same_relation(one, other, a, b) {
-            return false;
-        }
+    match (one.relation(a, b), other.relation(a, b)) {
+        (Ok(here), Ok(there)) => there == here,
+        _ => true,
     }
-    true
 }
 
 impl<B: Book> Sheet<B> {
@@ -48,10 +33,8 @@ impl<B: Book> Sheet<B> {
     fn same_cell<C: Book>(&self, other: &Sheet<C>, a: usize, n: usize) -> bool
         ensures { Decides result (AlikeAt (sheet_of (B.Book.order self.now.book) self.now.group) (sheet_of (C.Book.order other.now.book) other.now.group) n a) }
     {
-        if !same_row(&self.book, &other.book, a, n) {
-            return false;
-        }
         other.state(a) == self.state(a)
+            && (0..n).all(|b| same_relation(&self.book, &other.book, a, b))
     }
 
     /// Do the two sheets agree in count, in every relation, and in which cells are free, paired or centred?
@@ -59,14 +42,6 @@ impl<B: Book> Sheet<B> {
         ensures { Decides result (AlikeSheets (sheet_of (B.Book.order self.now.book) self.now.group) (sheet_of (C.Book.order other.now.book) other.now.group)) }
     {
         let n = self.count();
-        if other.count() != n {
-            return false;
-        }
-        for a in 0..n {
-            if !self.same_cell(other, a, n) {
-                return false;
-            }
-        }
-        true
+        other.count() == n && (0..n).all(|a| self.same_cell(other, a, n))
     }
 }

@@ -1,7 +1,6 @@
 //! Whole runs: a list of steps on a sheet, and what each came to.
 ghost use Rattle.std.specs.Prelude.{◌≡◌, length, IfOk, All};
 ghost use Rattle.group.specs.Group.{sheet_of};
-ghost use Rattle.sheet.specs.Sheets.{Sound};
 ghost use Rattle.sheet.specs.Runs.{Came, PlacedAnew, IsFilled, WholeRun, told};
 
 use crate::sheet::Sheet;
@@ -11,24 +10,14 @@ use length::Length;
 use refusal::SheetFault;
 use std::alloc::{AllocError, Global};
 
-/// A list of `n` zeros.
-fn zeros<T: Length>(heap: Global, n: usize) -> Result<Vec<T>, AllocError>
-    ensures { IfOk result (λ v. length v.items ≡ n) }
-{
-    let mut list = Vec::new(heap);
-    for _ in 0..n {
-        list.push(T::zero())?;
-    }
-    Ok(list)
-}
+impl<T> From<Result<(), SheetFault>> for Answer<T> {
+    ghost from_gives = { λ r a. a ≡ told r };
 
-/// What an edit's result is as a step's answer.
-fn answer_of<T>(res: Result<(), SheetFault>) -> Answer<T>
-    ensures { result ≡ told res }
-{
-    match res {
-        Ok(()) => Answer::Edited,
-        Err(fault) => Answer::Refused(fault),
+    fn from(edited: Result<(), SheetFault>) -> Answer<T> {
+        match edited {
+            Ok(()) => Answer::Edited,
+            Err(fault) => Answer::Refused(fault),
+        }
     }
 }
 
@@ -41,13 +30,13 @@ impl<B: Book> Sheet<B> {
         heights: &[T],
     ) -> Result<Answer<T>, AllocError>
         ensures filled { IfOk result (λ a. IsFilled (B.Book.order self.now.book).count a) }
-        ensures anew { Sound (B.Book.order self.now.book) self.now.group → IfOk result (λ a. PlacedAnew T.Length.kind (sheet_of (B.Book.order self.now.book) self.now.group) widths.now heights.now a) }
+        ensures anew { IfOk result (λ a. PlacedAnew T.Length.kind (sheet_of (B.Book.order self.now.book) self.now.group) widths.now heights.now a) }
     {
         let n = self.count();
-        let mut work = zeros(heap, n + n)?;
-        let mut x = zeros(heap, n)?;
-        let mut y = zeros(heap, n)?;
-        match self.place(widths, heights, &mut work, &mut x, &mut y) {
+        let mut work = vec![in heap; T::zero(); 2 * n]?;
+        let mut x = vec![in heap; T::zero(); n]?;
+        let mut y = vec![in heap; T::zero(); n]?;
+        match self.fill(widths, heights, &mut work, &mut x, &mut y) {
             Ok(extent) => Ok(Answer::Placed(Coordinates { work, x, y, extent })),
             Err(fault) => Ok(Answer::Refused(fault)),
         }
@@ -55,17 +44,17 @@ impl<B: Book> Sheet<B> {
 
     /// Does one step.
     fn step<T: Length>(&mut self, heap: Global, step: Step<T>) -> Result<Answer<T>, AllocError>
-        ensures sound { Sound (B.Book.order self.old.book) self.old.group → Sound (B.Book.order self.new.book) self.new.group }
         ensures filled { IfOk result (λ a. IsFilled (B.Book.order self.old.book).count a) }
-        ensures came { Sound (B.Book.order self.old.book) self.old.group → IfOk result (λ a. Came T.Length.kind (sheet_of (B.Book.order self.old.book) self.old.group) (sheet_of (B.Book.order self.new.book) self.new.group) step.entry a) }
+        ensures came { IfOk result (λ a. Came T.Length.kind (sheet_of (B.Book.order self.old.book) self.old.group) (sheet_of (B.Book.order self.new.book) self.new.group) step.entry a) }
     {
-        match step {
-            Step::Swap(a, b) => Ok(answer_of(self.swap(a, b))),
-            Step::Pair(a, b) => Ok(answer_of(self.pair(a, b))),
-            Step::Centre(a) => Ok(answer_of(self.centre(a))),
-            Step::Release(a) => Ok(answer_of(self.release(a))),
-            Step::Place(widths, heights) => self.place_anew(heap, widths, heights),
-        }
+        let edited = match step {
+            Step::Swap(a, b) => self.swap(a, b),
+            Step::Pair(a, b) => self.pair(a, b),
+            Step::Centre(a) => self.centre(a),
+            Step::Release(a) => self.release(a),
+            Step::Place(widths, heights) => return self.place_anew(heap, widths, heights),
+        };
+        Ok(edited.into())
     }
 }
 

@@ -22,7 +22,7 @@ pub struct Coordinates<T> {
     pub extent: Extent<T>,
 }
 
-/// What a step came to.
+/// What a step came to. (A run goes on after a refusal, so that is an answer and no error.)
 #[derive(Drop)]
 pub enum Answer<T> {
     Edited,

@@ -1,8 +1,9 @@
 use Rattle.std.proofs.Common.{◌≡◌, ℕ, ◌+◌, ◌-◌, ◌<◌, ◌≤◌, length, get_or, subst, arith}
 use borrow.Rule.Slice.PartMut.{put_mid}
-use Rattle.group.specs.Group.{mate_of, sheet_of}
+use Rattle.group.specs.Group.{mate_of}
+use Rattle.group.specs.Arranged.{meaning_of}
 use Rattle.placing.specs.Codes.{image_of}
-use Rattle.placing.proofs.LawfulSheet.{mate_inside, lawful_sheet}
+use Rattle.group.proofs.LawfulSheet.{mate_inside, lawful_arranged}
 use Rattle.placing.proofs.LentBack.{front_stays, back_mirrors}
 use Rattle.placing.proofs.WorkList.{given_across, small_befores}
 use Rattle.placing.proofs.across.chains.Goals as goal
@@ -14,10 +15,10 @@ pub returns : goal.returns
 returns g c =
     let V = g.row.T.Denot in
     let k = g.T.Length.kind in
-    let o = g.B.Book.order c.args.book.now in
-    let group = c.args.group.now in
-    let m = sheet_of o group in
-    let lawful = lawful_sheet o group (g.met.B.Book.lawful c.args.book.now) c.requires.counts in
+    let o = g.B.Book.order c.args.cells.now.book.now in
+    let group = c.args.cells.now.group.now in
+    let m = meaning_of c.args.cells.now in
+    let lawful = lawful_arranged c.args.cells.now (g.met.B.Book.lawful c.args.cells.now.book.now) in
     let w : ℕ → V = λ a. get_or c.args.widths.now a k.zero in
     let values = c.node_values.new.values in
     let value : ℕ → V = λ u. get_or values u k.zero in
@@ -32,9 +33,9 @@ returns g c =
     λ a here.
     subst (λ (i : ℕ). work (i + a) ≡ value (image_of i a (mate_of group a))) count
     (back_mirrors n values c.copy_from_slice.new.self images within k.zero (mate_of group)
-    (λ b d told. let cell = mate_inside group b d told in omega (arith, c.requires.counts))
+    (λ b d told. let cell = mate_inside group b d told in omega (arith, c.args.cells.now.counted))
     c.copy_from_slice.ensures.after
-    (λ b low. c.mirror_images.ensures b (omega (arith, c.requires.counts)))
+    (λ b low. c.mirror_images.ensures b (omega (arith, c.args.cells.now.counted)))
     a (omega arith))
     in
     record {

@@ -1,6 +1,6 @@
 use Rattle.std.proofs.Common.{◌<◌, sym, ap, arith}
 use Rattle.placing.specs.Codes.{image_of}
-use Rattle.placing.proofs.LawfulSheet.{mate_inside}
+use Rattle.group.proofs.LawfulSheet.{mate_inside}
 use Rattle.placing.proofs.across.image_number.Goals as goal
 
 pub returns-in-Some : goal.returns-in-Some

@@ -1,7 +1,7 @@
 use Rattle.std.proofs.Common.{ℕ, get_or, sym, ◌∙◌, arith}
 use Rattle.length.proofs.Answered.{cases_map}
 use Rattle.graph.specs.Heaviest.{dealt}
-use Rattle.placing.proofs.LawfulSheet.{lawful_sheet}
+use Rattle.group.proofs.LawfulSheet.{lawful_arranged}
 use Rattle.placing.proofs.Present.{present_both}
 use Rattle.placing.proofs.Dealt.{dealt_first, dealt_again}
 use Rattle.placing.proofs.AcrossGraph.{Twice, sides_short, sides_light}
@@ -10,7 +10,7 @@ use Rattle.placing.proofs.across.node_values.Goals as goal
 
 pub reach-requires : goal.reach-requires
 reach-requires g c = record {
-  weighted = omega (arith, c.requires.widths, (g.met.B.Book.lawful c.args.book.now).some);
+  weighted = omega (arith, c.requires.widths, (g.met.B.Book.lawful c.args.cells.now.book.now).some);
   long = c.requires.values ∙ sym c.in_ok-graph.ensures.count;
 }
 
@@ -22,8 +22,8 @@ returns g c =
     let V = g.row.T.Denot in
     let k = g.T.Length.kind in
     let laws = g.met.T.Length.laws in
-    let o = g.B.Book.order c.args.book.now in
-    let lawful = lawful_sheet o c.args.group.now (g.met.B.Book.lawful c.args.book.now) c.requires.counts in
+    let o = g.B.Book.order c.args.cells.now.book.now in
+    let lawful = lawful_arranged c.args.cells.now (g.met.B.Book.lawful c.args.cells.now.book.now) in
     let sides = c.in_ok-graph.ensures in
     let widths = c.args.widths.now in
     let w : ℕ → V = λ a. get_or widths a k.zero in

@@ -1,6 +1,6 @@
 use Rattle.std.proofs.Common.{◌≡◌, ℕ, ◌<◌, get_or, sym, ◌∙◌, arith}
 use Rattle.graph.specs.Heaviest.{dealt, Bounded}
-use Rattle.placing.proofs.LawfulSheet.{lawful_sheet}
+use Rattle.group.proofs.LawfulSheet.{lawful_arranged}
 use Rattle.placing.proofs.Present.{absent_refutes}
 use Rattle.placing.proofs.Dealt.{dealt_first}
 use Rattle.placing.proofs.DownwardGraph.{falls_short, falls_light, given_down}
@@ -8,7 +8,7 @@ use Rattle.placing.proofs.downward.bottoms.Goals as goal
 
 pub reach-requires : goal.reach-requires
 reach-requires g c = record {
-  weighted = omega (arith, c.requires.heights, (g.met.B.Book.lawful c.args.book.now).some);
+  weighted = omega (arith, c.requires.heights, (g.met.B.Book.lawful c.args.cells.now.book.now).some);
   long = c.requires.y ∙ sym c.in_ok-graph.ensures.count;
 }
 
@@ -20,8 +20,8 @@ returns g c =
     let V = g.row.T.Denot in
     let k = g.T.Length.kind in
     let laws = g.met.T.Length.laws in
-    let o = g.B.Book.order c.args.book.now in
-    let lawful = lawful_sheet o c.args.group.now (g.met.B.Book.lawful c.args.book.now) c.requires.counts in
+    let o = g.B.Book.order c.args.cells.now.book.now in
+    let lawful = lawful_arranged c.args.cells.now (g.met.B.Book.lawful c.args.cells.now.book.now) in
     let falls = c.in_ok-graph.ensures in
     let heights = c.args.heights.now in
     let h : ℕ → V = λ a. get_or heights a k.zero in

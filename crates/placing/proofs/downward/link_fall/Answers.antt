@@ -1,6 +1,6 @@
 use Rattle.std.proofs.Common.{◌≡◌, ◌<◌, Some, sym, inl, inr, arith}
 use Rattle.group.specs.Group.{mate_of}
-use Rattle.placing.proofs.LawfulSheet.{mate_inside}
+use Rattle.group.proofs.LawfulSheet.{mate_inside}
 use Rattle.placing.proofs.Adding.{adds_link, adds_both, adds_like}
 use Rattle.placing.proofs.downward.link_fall.Goals as goal
 

@@ -2,7 +2,7 @@ use Rattle.std.proofs.Common.{◌≡◌, ℕ, ◌+◌, get_or, sym, ap, ◌∙�
 use Rattle.std.proofs.lemmas.List.{get_or_read}
 use Rattle.length.proofs.Answered.{cases_map}
 use Rattle.placement.specs.Rule.{middle}
-use Rattle.group.specs.Group.{sheet_of}
+use Rattle.group.specs.Arranged.{meaning_of}
 use Rattle.placing.proofs.EdgeRoom.{edge_at}
 use Rattle.placing.proofs.edges.edge_of.Goals as goal
 
@@ -10,8 +10,8 @@ pub returns : goal.returns
 returns g c =
     let V = g.row.T.Denot in
     let k = g.T.Length.kind in
-    let o = g.B.Book.order c.args.book.now in
-    let m = sheet_of o c.args.group.now in
+    let o = g.B.Book.order c.args.cells.now.book.now in
+    let m = meaning_of c.args.cells.now in
     let widths = c.args.widths.now in
     let work = c.args.work.now in
     let a = c.args.a in

@@ -1,11 +1,21 @@
 -- The first cell that differs from its mate is the lower of the two; past it every cell agrees with its mate.
-use Rattle.std.proofs.Common.{ℕ, sym, ◌∙◌, subst, arith, below_more}
+use Rattle.std.proofs.Common.{ℕ, ◌<◌, sym, ◌∙◌, subst, arith, below_more}
 use Rattle.std.proofs.lemmas.Bool.Decides.{not_from_Decides}
 use Rattle.group.specs.Group.{mate_of}
+use Rattle.group.proofs.LawfulSheet.{mate_inside}
 use Rattle.group.proofs.Tables.{same_some}
 use Rattle.placing.specs.Sizes.{entries, Agree, Matched, pair_differs}
 use Rattle.placing.proofs.LawfulSizes.{lower_of_pair}
 use Rattle.placing.proofs.sizes.check_pairs.Goals as goal
+
+pub agree-requires : goal.agree-requires
+agree-requires g c =
+    let group = c.args.group.now in
+    let cell : c.loop-cell.cell < group.count = omega (arith, c.count-cell-end.ensures, c.loop-cell-test.true) in
+    let mate : c.in-Some.mate < group.count = mate_inside group c.loop-cell.cell c.in-Some.mate (sym c.partner.ensures ∙ c.in-Some.is) in
+    let wide = c.requires.widths in
+    let high = c.requires.heights in
+    record { widths = (omega arith, omega arith); heights = (omega arith, omega arith) }
 
 pub returns-then-not-agree : goal.returns-then-not-agree
 returns-then-not-agree g c sized =

@@ -11,6 +11,6 @@ returns g c =
     let k = g.T.Length.kind in
     let w = entries k c.args.widths.now in
     let h = entries k c.args.heights.now in
-    let sized : Each group.count (Sized k w h) = λ a low. c.in_ok-check_each.ensures a (omega (arith, low, c.count.ensures)) in
+    let sized : Each group.count (Sized k w h) = λ a low. c.in_ok-check_each.ensures a (omega (arith, low, c.requires.widths)) in
     let matched = c.in_ok-check_pairs.ensures in
     MatchResult-weaker c.check_centres.result c.check_centres.ensures (λ _ balanced. fit k group w h sized matched balanced) (λ f refused. refused h sized matched)

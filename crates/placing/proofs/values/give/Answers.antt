@@ -1,7 +1,8 @@
-use Rattle.std.proofs.Common.{ℕ, ◌+◌, get_or, sym, subst}
-use Rattle.group.specs.Group.{sheet_of}
+use Rattle.std.proofs.Common.{ℕ, ◌+◌, sym, subst}
+use Rattle.group.specs.Arranged.{meaning_of, count_of}
+use Rattle.group.proofs.LawfulSheet.{lawful_arranged}
 use Rattle.placing.specs.Edges.{RoomForAll}
-use Rattle.placing.proofs.LawfulSheet.{lawful_sheet}
+use Rattle.placing.specs.Sizes.{entries}
 use Rattle.placing.proofs.RoomAcross.{room_for_all}
 use Rattle.placing.proofs.values.give.Goals as goal
 
@@ -15,17 +16,16 @@ pub returns-in_err-left_edges : goal.returns-in_err-left_edges
 returns-in_err-left_edges g c =
     let V = g.row.T.Denot in
     let k = g.T.Length.kind in
-    let o = g.B.Book.order c.args.book.now in
-    let m = sheet_of o c.args.group.now in
-    let lawful = lawful_sheet o c.args.group.now (g.met.B.Book.lawful c.args.book.now) c.requires.counts in
-    let w : ℕ → V = λ a. get_or c.args.widths.now a k.zero in
-    let before : ℕ → V = λ a. get_or c.chains.new.work a k.zero in
-    let after : ℕ → V = λ a. get_or c.chains.new.work (o.count + a) k.zero in
+    let cells = c.args.cells.now in
+    let lawful = lawful_arranged cells (g.met.B.Book.lawful cells.book.now) in
+    let w = entries k c.args.widths.now in
+    let before = entries k c.chains.new.work in
+    let after : ℕ → V = λ a. before (count_of cells + a) in
     let across = c.in_ok-longest.ensures in
     rw c.from_residual-in_err-left_edges.ensures
     (λ clean sized.
     c.in_err-left_edges.ensures
-    (subst (λ (half : V). RoomForAll k m w before after half) (sym c.upper_half-half_span.ensures)
+    (subst (λ (half : V). RoomForAll k (meaning_of cells) w before after half) (sym c.upper_half-half_span.ensures)
     (room_for_all g.met.T.Length.laws lawful sized across.found (across.finishes clean sized.wide))))
 
 pub returns : goal.returns

@@ -9,7 +9,6 @@ pub loop-step-init : goal.loop-step-init
 loop-step-init g c =
     let m = sheet_of (g.B.Book.order c.new-sheet.result.book) c.new-sheet.result.group in
     record {
-      sound = c.new-sheet.ensures.sound;
       ran = subst (λ answers. Ran g.T.Length.kind m [] answers m) (sym c.new-answers.ensures.items) end;
       counts = refl;
       filled = subst (All (IsFilled m.order.count)) (sym c.new-answers.ensures.items) (All-nil (IsFilled m.order.count));
@@ -19,10 +18,9 @@ pub loop-step-preserved : goal.loop-step-preserved
 loop-step-preserved g c =
     let before = c.loop-step.invariant in
     let told = c.in_ok-answer.ensures in
-    let came = told.came before.sound in
+    let came = told.came in
     let n = (g.B.Book.order c.new-sheet.result.book).count in
     record {
-      sound = told.sound before.sound;
       ran = ran_next c.args.steps.now c.loop-step.step-index c.step-item.result c.in_ok-answer.answer (vec_items c.loop-step.answers) (vec_items c.push.new.self) c.loop-step-test.true c.step-item.is c.in_ok-push.ensures.items before.ran came;
       counts = came_count came ∙ before.counts;
       filled = subst (All (IsFilled n)) (sym c.in_ok-push.ensures.items)

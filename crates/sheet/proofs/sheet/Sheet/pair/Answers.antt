@@ -1,68 +1,15 @@
-use Rattle.std.proofs.Common.{◌≡◌, ℕ, ◌<◌, Ok, Err, Result, sym, ◌∙◌, subst}
-use Rattle.refusal.specs.declared.fault.SheetFault.{SheetFault}
+use Rattle.std.proofs.Common.{ℕ}
 use Rattle.group.specs.Group.{mate_of}
-use Rattle.group.specs.Edits.{paired, pair_check}
-use Rattle.group.proofs.Checks.{fine}
-use Rattle.sheet.specs.Edits.{pair, Outcome}
+use Rattle.group.specs.Edits.{pair_check}
 use Rattle.book.proofs.Exits.{exit_at}
-use Rattle.sheet.proofs.Outcomes.{unfit_outcome, done_outcome, unplaceable_outcome}
-use Rattle.sheet.proofs.Restored.{free_none, paired_freed, paired_grouped}
-use Rattle.sheet.proofs.Same.{order_refl}
-use Rattle.sheet.proofs.TakenBack.{taken_back}
+use Rattle.sheet.specs.Edits.{pair, Outcome, unfit}
+use Rattle.sheet.proofs.Same.{same_refl}
+use Rattle.sheet.proofs.Outcomes.{of_sheet}
 use Rattle.sheet.proofs.sheet.Sheet.pair.Goals as goal
 
 pub returns-in_err-pair : goal.returns-in_err-pair
 returns-in_err-pair g c =
     let s = c.args.self.now in
-    let a = c.args.a in
-    let b = c.args.b in
     let o = g.B.Book.order s.book in
-    let old = s.group in
-    let new = c.pair.new.self in
-    let f = c.in_err-pair.field-0.0 in
-    let made = c.in_err-pair.ensures in
-    exit_at (Outcome o old (pair a b) o new) c.from_residual.result f c.from_residual.ensures.1
-    (unfit_outcome o old (pair a b) o new f
-    (λ h. sym (subst (λ (n : ℕ). ◌≡◌ {A = Result (Unit {0}) SheetFault} (Err f) (pair_check n (mate_of old) a b)) h.counts made.answer))
-    (λ e. made.count ∙ e)
-    (record { order = order_refl o; mate = λ x h. made.mates x }))
-
-pub returns-in-Some : goal.returns-in-Some
-returns-in-Some g c =
-    let s = c.args.self.now in
-    let a = c.args.a in
-    let b = c.args.b in
-    let o = g.B.Book.order s.book in
-    let old = s.group in
-    let new = c.pair.new.self in
-    let end = c.release.new.self in
-    let made = c.in_ok-pair.ensures in
-    let ok = fine old.count (mate_of old) a b made.answer in
-    let a_in : a < new.count = subst (λ (n : ℕ). a < n) (sym made.count) ok.a_in in
-    let judged = c.in-Some.ensures in
-    let back = taken_back new.count a b (mate_of old) (mate_of new) (mate_of end) (paired a b (mate_of old)) c.release.result a_in made.mates (paired_grouped (mate_of old) a b) (paired_freed (mate_of old) a b (free_none (mate_of old) a ok.a_free) (free_none (mate_of old) b ok.b_free)) c.release.ensures.answer c.release.ensures.mates in
-    unplaceable_outcome judged.theorem o old (pair a b) o end o new _ _
-    (λ h. sym (subst (λ (n : ℕ). ◌≡◌ {A = Result (Unit {0}) SheetFault} (Ok tt) (pair_check n (mate_of old) a b)) h.counts made.answer))
-    (g.met.B.Book.lawful s.book)
-    (λ e. made.count ∙ e)
-    (record { order = order_refl o; mate = λ x h. made.mates x })
-    judged.couple
-    (λ e. c.release.ensures.count ∙ made.count ∙ e)
-    (record { order = order_refl o; mate = λ x h. back x })
-
-pub returns : goal.returns
-returns g c =
-    let s = c.args.self.now in
-    let a = c.args.a in
-    let b = c.args.b in
-    let o = g.B.Book.order s.book in
-    let old = s.group in
-    let new = c.pair.new.self in
-    let made = c.in_ok-pair.ensures in
-    let judged = c.in_default.ensures in
-    done_outcome judged.theorem o old (pair a b) o new
-    (λ h. sym (subst (λ (n : ℕ). ◌≡◌ {A = Result (Unit {0}) SheetFault} (Ok tt) (pair_check n (mate_of old) a b)) h.counts made.answer))
-    (g.met.B.Book.lawful s.book)
-    (λ e. made.count ∙ e)
-    (record { order = order_refl o; mate = λ x h. made.mates x })
-    (λ _. judged.couple)
+    exit_at (Outcome o s.group (pair c.args.a c.args.b) o s.group) c.from_residual.result _ c.from_residual.ensures.1
+    (unfit (of_sheet s.sound (λ (n : ℕ). pair_check n (mate_of s.group) c.args.a c.args.b) c.in_err-pair.ensures.answer) (same_refl _))

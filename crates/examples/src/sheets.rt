@@ -4,7 +4,7 @@ ghost use Rattle.std.specs.Prelude.{◌≡◌, ◌*◌, length, vec_len, IfOk};
 use crate::shared::{ascending, each};
 use book::{Book, Flipped, MOST_CELLS, Relation, SequencePair, Slicing, Transposed};
 use length::{LARGEST_SIZE, Length, Plain};
-use placing::Extent;
+use placing::{Extent, Lists};
 use refusal::{SheetFault, Side};
 use sheet::{Coordinates, Sheet};
 use std::alloc::Global;
@@ -44,7 +44,13 @@ fn place<B: Book, T: Length>(
     let mut x = vec![in heap; before; n]?;
     let mut y = vec![in heap; before; n]?;
     let mut work = vec![in heap; before; 2 * n]?;
-    let extent = sheet.place(widths, heights, &mut work, &mut x, &mut y)?;
+    let extent = sheet.place(Lists {
+        widths,
+        heights,
+        work: &mut work,
+        x: &mut x,
+        y: &mut y,
+    })?;
     Ok(Coordinates { work, x, y, extent })
 }
 
@@ -177,27 +183,42 @@ fn refused_sizes_leave_the_lists(rt: HostRuntime) -> Result<(), Fail> {
         [Plain(2), Plain(3)],
         [Plain(0), Plain(2)],
     );
-    let mut short = [Plain(9); 3];
+    let refused = [
+        (&two[..1], &two, SheetFault::ListLength { list: 1 }),
+        (
+            &two[..],
+            &none,
+            SheetFault::NotASize {
+                cell: 0,
+                side: Side::Height,
+            },
+        ),
+        (
+            &unlike[..],
+            &two,
+            SheetFault::PairSizesDiffer { cell: 0, mate: 1 },
+        ),
+    ];
+    for (widths, heights, fault) in refused {
+        let lists = Lists {
+            widths,
+            heights,
+            work: &mut work,
+            x: &mut x,
+            y: &mut y,
+        };
+        assert_eq!(rt; sheet.place(lists).err(), Some(fault));
+    }
+    let short = Lists {
+        widths: &two,
+        heights: &two,
+        work: &mut [Plain(9); 3],
+        x: &mut x,
+        y: &mut y,
+    };
     assert_eq!(rt;
-        sheet
-            .place(&[Plain(2)], &two, &mut work, &mut x, &mut y)
-            .err(),
-        Some(SheetFault::ListLength { list: 1 })
-    );
-    assert_eq!(rt;
-        sheet.place(&two, &two, &mut short, &mut x, &mut y).err(),
+        sheet.place(short).err(),
         Some(SheetFault::ListLength { list: 3 })
-    );
-    assert_eq!(rt;
-        sheet.place(&two, &none, &mut work, &mut x, &mut y).err(),
-        Some(SheetFault::NotASize {
-            cell: 0,
-            side: Side::Height,
-        })
-    );
-    assert_eq!(rt;
-        sheet.place(&unlike, &two, &mut work, &mut x, &mut y).err(),
-        Some(SheetFault::PairSizesDiffer { cell: 0, mate: 1 })
     );
     same(&rt, &work, &[9, 9, 9, 9]);
     same(&rt, &x, &[9, 9]);

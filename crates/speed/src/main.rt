@@ -16,7 +16,7 @@ use book::{Book, SequencePair, Slicing};
 use dice::Dice;
 use length::{Numbered, PerProcess, Plain};
 use sheet::Sheet;
-use start::Lists;
+use start::Held;
 use std::alloc::Global;
 use std::env;
 use tally::Tally;
@@ -24,7 +24,7 @@ use tally::Tally;
 const USAGE: &str = "usage: speed SWAPS 8|16|32|64 pair|slicing one|three";
 
 /// Does so many random swaps on a sheet, and places it after each that is done.
-fn swaps<B: Book, T: Numbered>(sheet: &mut Sheet<B>, lists: &mut Lists<T>, count: u32) -> Tally {
+fn swaps<B: Book, T: Numbered>(sheet: &mut Sheet<B>, lists: &mut Held<T>, count: u32) -> Tally {
     let n = sheet.count();
     let mut dice = Dice::new();
     let mut tally = Tally::default();
@@ -35,14 +35,8 @@ fn swaps<B: Book, T: Numbered>(sheet: &mut Sheet<B>, lists: &mut Lists<T>, count
             tally.refuse(fault);
             continue;
         }
-        match sheet.place(
-            &lists.widths,
-            &lists.heights,
-            &mut lists.work,
-            &mut lists.x,
-            &mut lists.y,
-        ) {
-            Ok(extent) => tally.place(extent.half_span, extent.depth, &lists.x, &lists.y),
+        match sheet.place(lists.lend()) {
+            Ok(extent) => tally.place(extent, &lists.x, &lists.y),
             Err(fault) => tally.refuse(fault),
         }
     }

@@ -7,6 +7,7 @@ ghost use Rattle.book.specs.Order.{most_cells};
 
 use book::Book;
 use length::Numbered;
+use placing::Lists;
 use refusal::SheetFault;
 use sheet::Sheet;
 use std::alloc::{AllocError, Global};
@@ -76,14 +77,27 @@ pub(crate) fn group<B: Book>(sheet: &mut Sheet<B>) -> Result<(), SheetFault> {
     sheet.centre(n / 2)
 }
 
-/// The lists of a placing.
+/// The lists of a placing, as their owner holds them.
 #[derive(Drop)]
-pub(crate) struct Lists<T> {
-    pub(crate) widths: Vec<T>,
-    pub(crate) heights: Vec<T>,
-    pub(crate) work: Vec<T>,
+pub(crate) struct Held<T> {
+    widths: Vec<T>,
+    heights: Vec<T>,
+    work: Vec<T>,
     pub(crate) x: Vec<T>,
     pub(crate) y: Vec<T>,
+}
+
+impl<T> Held<T> {
+    /// The lists, lent to a placing.
+    pub(crate) fn lend(&mut self) -> Lists<'_, T> {
+        Lists {
+            widths: &self.widths,
+            heights: &self.heights,
+            work: &mut self.work,
+            x: &mut self.x,
+            y: &mut self.y,
+        }
+    }
 }
 
 /// A number of a size, from 20 to 60.
@@ -129,10 +143,10 @@ fn height<T: Numbered>(cell: usize, n: usize) -> T
 }
 
 /// The lists of a placing of `n` cells, with sizes that vary from cell to cell and agree between mates.
-pub(crate) fn lists_of<T: Numbered>(heap: Global, n: usize) -> Result<Lists<T>, AllocError>
+pub(crate) fn lists_of<T: Numbered>(heap: Global, n: usize) -> Result<Held<T>, AllocError>
     requires { n ≤ most_cells }
 {
-    Ok(Lists {
+    Ok(Held {
         widths: (0..n).map(|cell| width(cell, n)).collect(heap)?,
         heights: (0..n).map(|cell| height(cell, n)).collect(heap)?,
         work: vec![in heap; T::zero(); 2 * n]?,

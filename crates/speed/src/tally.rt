@@ -1,5 +1,6 @@
 //! What the swaps came to.
 use length::Numbered;
+use placing::Extent;
 use refusal::{Refusal, SheetFault};
 
 /// How many swaps were done and how many refused, and a checksum over every placement and every refusal.
@@ -24,10 +25,10 @@ impl Tally {
     }
 
     /// Counts a swap that is done, with the placement that it leads to.
-    pub(crate) fn place<T: Numbered>(&mut self, half_span: T, depth: T, x: &[T], y: &[T]) {
+    pub(crate) fn place<T: Numbered>(&mut self, extent: Extent<T>, x: &[T], y: &[T]) {
         self.done = self.done.wrapping_add(1);
-        self.add_length(half_span);
-        self.add_length(depth);
+        self.add_length(extent.half_span);
+        self.add_length(extent.depth);
         for edge in x.iter().chain(y) {
             self.add_length(*edge);
         }

@@ -4,7 +4,7 @@ ghost use Rattle.std.specs.Prelude.{◌≡◌, ◌*◌, length, vec_len, IfOk};
 use crate::shared::{ascending, each};
 use book::{Book, Flipped, MOST_CELLS, Relation, SequencePair, Slicing, Transposed};
 use length::{LARGEST_SIZE, Length, Plain};
-use placing::{Extent, Lists};
+use placing::Extent;
 use refusal::{SheetFault, Side};
 use sheet::{Coordinates, Sheet};
 use std::alloc::Global;
@@ -44,13 +44,7 @@ fn place<B: Book, T: Length>(
     let mut x = vec![in heap; before; n]?;
     let mut y = vec![in heap; before; n]?;
     let mut work = vec![in heap; before; 2 * n]?;
-    let extent = sheet.place(Lists {
-        widths,
-        heights,
-        work: &mut work,
-        x: &mut x,
-        y: &mut y,
-    })?;
+    let extent = sheet.place(widths, heights, &mut work, &mut x, &mut y)?;
     Ok(Coordinates { work, x, y, extent })
 }
 
@@ -200,26 +194,11 @@ fn refused_sizes_leave_the_lists(rt: HostRuntime) -> Result<(), Fail> {
         ),
     ];
     for (widths, heights, fault) in refused {
-        let lists = Lists {
-            widths,
-            heights,
-            work: &mut work,
-            x: &mut x,
-            y: &mut y,
-        };
-        assert_eq!(rt; sheet.place(lists).err(), Some(fault));
+        let placed = sheet.place(widths, heights, &mut work, &mut x, &mut y);
+        assert_eq!(rt; placed.err(), Some(fault));
     }
-    let short = Lists {
-        widths: &two,
-        heights: &two,
-        work: &mut [Plain(9); 3],
-        x: &mut x,
-        y: &mut y,
-    };
-    assert_eq!(rt;
-        sheet.place(short).err(),
-        Some(SheetFault::ListLength { list: 3 })
-    );
+    let short = sheet.place(&two, &two, &mut [Plain(9); 3], &mut x, &mut y);
+    assert_eq!(rt; short.err(), Some(SheetFault::ListLength { list: 3 }));
     same(&rt, &work, &[9, 9, 9, 9]);
     same(&rt, &x, &[9, 9]);
     same(&rt, &y, &[9, 9]);

@@ -35,7 +35,7 @@ fn swaps<B: Book, T: Numbered>(sheet: &mut Sheet<B>, lists: &mut Held<T>, count:
             tally.refuse(fault);
             continue;
         }
-        match sheet.place(lists.lend()) {
+        match lists.place(sheet) {
             Ok(extent) => tally.place(extent, &lists.x, &lists.y),
             Err(fault) => tally.refuse(fault),
         }

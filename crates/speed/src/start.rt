@@ -7,7 +7,7 @@ ghost use Rattle.book.specs.Order.{most_cells};
 
 use book::Book;
 use length::Numbered;
-use placing::Lists;
+use placing::Extent;
 use refusal::SheetFault;
 use sheet::Sheet;
 use std::alloc::{AllocError, Global};
@@ -87,16 +87,16 @@ pub(crate) struct Held<T> {
     pub(crate) y: Vec<T>,
 }
 
-impl<T> Held<T> {
-    /// The lists, lent to a placing.
-    pub(crate) fn lend(&mut self) -> Lists<'_, T> {
-        Lists {
-            widths: &self.widths,
-            heights: &self.heights,
-            work: &mut self.work,
-            x: &mut self.x,
-            y: &mut self.y,
-        }
+impl<T: Numbered> Held<T> {
+    /// Places a sheet in the lists.
+    pub(crate) fn place<B: Book>(&mut self, sheet: &Sheet<B>) -> Result<Extent<T>, SheetFault> {
+        sheet.place(
+            &self.widths,
+            &self.heights,
+            &mut self.work,
+            &mut self.x,
+            &mut self.y,
+        )
     }
 }
 

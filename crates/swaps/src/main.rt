@@ -6,7 +6,7 @@ ghost use Rattle.std.specs.Prelude.{◌<◌};
 use anyhow::Context;
 use book::{MOST_CELLS, SequencePair};
 use length::Plain;
-use placing::{Extent, Lists};
+use placing::Extent;
 use refusal::SheetFault;
 use sheet::Sheet;
 use std::{array, env};
@@ -79,13 +79,8 @@ fn swaps(count: u32) -> Result<Tally, SheetFault> {
     let mut tally = Tally::default();
     for _ in 0..count {
         if sheet.swap(dice.cell(), dice.cell()).is_ok() {
-            tally.place(sheet.place(Lists {
-                widths: &widths,
-                heights: &heights,
-                work: &mut work,
-                x: &mut x,
-                y: &mut y,
-            })?);
+            let extent = sheet.place(&widths, &heights, &mut work, &mut x, &mut y)?;
+            tally.place(extent);
         } else {
             tally.refused = tally.refused.wrapping_add(1);
         }

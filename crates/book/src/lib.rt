@@ -15,6 +15,7 @@ pub use book::{Book, cell_within, within};
 pub use layers::{Diagonal, Flipped, Mirror, Transposed, Turn, Turned, turned_twice};
 pub use relation::{MOST_CELLS, Relation};
 pub use sequence_pair::SequencePair;
+pub use slicing::JOINED;
 pub use slicing_book::{
     Slicing, beside_earlier_is_left, expression_never_refused, stacked_later_is_above,
 };

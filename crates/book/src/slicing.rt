@@ -8,8 +8,8 @@ use crate::relation::MOST_CELLS;
 use arrayvec::ArrayVec;
 use refusal::FieldFault;
 
-/// How many waiting parts a join takes.
-const JOINED: usize = 2;
+/// How many waiting parts of a slicing expression a join takes.
+pub const JOINED: usize = 2;
 
 /// The parts that wait while an expression is read, from the earliest to the latest, as two rows of cells.
 ///

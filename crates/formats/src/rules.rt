@@ -3,11 +3,7 @@ ghost use Rattle.std.specs.Prelude.{◌≡◌};
 ghost use Rattle.formats.specs.Rules as rule;
 
 use crate::fields::{BookKind, Entry};
-use book::MOST_CELLS;
-
-/// How many waiting parts a join takes. Crate book has this number too: a book reads an expression for itself, and by no
-/// rule of files.
-const JOINED: usize = 2;
+use book::{JOINED, MOST_CELLS};
 
 /// Whether there can be so many cells.
 pub fn is_count(n: usize) -> bool

@@ -35,6 +35,9 @@ pub fn place<B: Book, T: Length>(
     if let Some(extent) = give(cells, widths, heights, work, x, y) {
         return Ok(extent);
     }
-    let (first, second) = cells.first_forbidden().unwrap_or((0, 0));
+    // lawful sizes that have no placement: some couple is forbidden
+    let Some((first, second)) = cells.first_forbidden() else {
+        unreachable!();
+    };
     Err(SheetFault::Unplaceable { first, second })
 }

@@ -7,16 +7,15 @@ use group::Group;
 use length::Length;
 use refusal::{SheetFault, Side};
 
-// The places of a placing's lists, as a refusal counts them: it holds a number, from 1 on.
-const WIDTHS: usize = 1;
-
-const HEIGHTS: usize = 2;
-
-const WORK: usize = 3;
-
-const LEFT_EDGES: usize = 4;
-
-const BOTTOMS: usize = 5;
+/// The lists of a placing, each with its number in a refusal.
+#[derive(Clone, Copy)]
+enum List {
+    Widths = 1,
+    Heights,
+    Work,
+    LeftEdges,
+    Bottoms,
+}
 
 /// Checks the lengths of the five lists of a placing of `n` cells: two entries a cell in the work list, one in each other.
 pub(crate) fn check_lists(
@@ -30,20 +29,30 @@ pub(crate) fn check_lists(
     ensures { MatchResult result (λ _. Lists n widths heights work x y) (λ f. NoLists n widths heights work x y f) }
 {
     if widths != n {
-        return Err(SheetFault::ListLength { list: WIDTHS });
+        return Err(SheetFault::ListLength {
+            list: List::Widths as usize,
+        });
     }
     if heights != n {
-        return Err(SheetFault::ListLength { list: HEIGHTS });
+        return Err(SheetFault::ListLength {
+            list: List::Heights as usize,
+        });
     }
     // an entry for each cell, then one for each image (twice n may be no usize)
     if work < n || work - n != n {
-        return Err(SheetFault::ListLength { list: WORK });
+        return Err(SheetFault::ListLength {
+            list: List::Work as usize,
+        });
     }
     if x != n {
-        return Err(SheetFault::ListLength { list: LEFT_EDGES });
+        return Err(SheetFault::ListLength {
+            list: List::LeftEdges as usize,
+        });
     }
     if y != n {
-        return Err(SheetFault::ListLength { list: BOTTOMS });
+        return Err(SheetFault::ListLength {
+            list: List::Bottoms as usize,
+        });
     }
     Ok(())
 }

@@ -1,6 +1,6 @@
 -- One turn of reading a number: what the byte at its place makes of what was read, and that sums and products stay small.
 use Rattle.std.proofs.Common.{◌≡◌, ℕ, zero, suc, ◌+◌, ◌-◌, ◌*◌, ◌^◌, ◌<◌, ◌≤◌, false, List, drop, Ok, sym, refl, ap, ◌∙◌, mul_assoc, mul_comm, mul-add, arith}
-use Rattle.numbers.specs.Number.{Got, got, short, bad, more, unlawful, tail, decode}
+use Rattle.numbers.specs.Number.{Got, got, short, bad, more, unlawful, decode}
 use Rattle.numbers.specs.Calls.{told, number_at}
 use Rattle.std.proofs.lemmas.Bool.Decides.{nat_tests}
 
@@ -9,15 +9,6 @@ abbrev pub lift : ℕ → ℕ → ℕ → Got → Got
 lift a s n (got v m) = got (a + s * v) (n + m)
 lift a s n short = short
 lift a s n bad = bad
-
-nothing_yet : (g : Got) → g ≡ lift 0 1 0 g
-nothing_yet (got v n) = let m : 0 + 1 * v ≡ v = omega arith in let k : 0 + n ≡ n = omega arith in rw (m, k)
-nothing_yet short = refl
-nothing_yet bad = refl
-
--- before the first byte nothing was read
-pub number_starts : (file : List ℕ) (p : ℕ) → decode (drop p file) ≡ lift 0 1 0 (tail 0 (drop p file))
-number_starts file p = nothing_yet (decode (drop p file))
 
 -- a number whose last byte is b
 pub number_ends : (file : List ℕ) (p a s i b : ℕ) → decode (drop p file) ≡ lift a s i (got b 1) → Ok (a + b * s, p + i + 1) ≡ number_at file p

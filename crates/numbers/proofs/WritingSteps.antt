@@ -1,5 +1,5 @@
 -- One turn of writing a number: the bytes so far and the groups of what is left are the bytes of the number.
-use Rattle.std.proofs.Common.{◌≡◌, ℕ, zero, suc, ◌+◌, ◌*◌, ◌/◌, ◌%◌, ◌^◌, ◌<◌, ◌≤◌, List, [], ◌∷◌, ◌++◌, length, get_or, take, drop, set, refl, ap, ◌∙◌, ⊎_elim, add-one, arith, drop-cons}
+use Rattle.std.proofs.Common.{◌≡◌, ℕ, zero, suc, ◌+◌, ◌*◌, ◌/◌, ◌%◌, ◌^◌, ◌<◌, ◌≤◌, List, [], ◌∷◌, ◌++◌, length, get_or, take, drop, set, ap, ◌∙◌, ⊎_elim, add-one, arith, drop-cons}
 use native.Mathlib.Nat.{pow-succ'}
 use Rattle.std.proofs.lemmas.Bool.{cases_lt}
 use Rattle.std.proofs.lemmas.List.{append_assoc, length-append, length-take, drop-drop, take_all, take_more_set}
@@ -13,9 +13,6 @@ use Rattle.numbers.proofs.NumberLaws.{writing_frames}
 pub record Left (v : ℕ) (bytes : List ℕ) (i rest k : ℕ) : Type 0 where
   pub small : rest < 16 * 128 ^ k
   pub makes : take i bytes ++ groups k rest ≡ encode v
-
-pub left_all : (v : ℕ) (bytes : List ℕ) → v < 2 ^ 32 → Left v bytes 0 v 4
-left_all v bytes h = record { small = omega arith; makes = refl }
 
 -- more than one group is of a number that has more than seven bits, and one group of no more
 several : (k v : ℕ) → 1 < length (groups k v) → 128 ≤ v

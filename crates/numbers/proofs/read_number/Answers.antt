@@ -1,26 +1,9 @@
-use Rattle.std.proofs.Common.{◌≡◌, ◌+◌, ◌*◌, ◌^◌, ◌<◌, true, false, length, drop, sym, ap, ◌∙◌, arith, rules}
-use Rattle.std.proofs.lemmas.List.{at_drop_all, length-drop, take_all}
-use Rattle.numbers.specs.Number.{short, unlawful, tail}
+use Rattle.std.proofs.Common.{◌≡◌, ◌+◌, ◌*◌, ◌^◌, ◌<◌, true, false, length, sym, ap, ◌∙◌, arith, rules}
+use Rattle.numbers.specs.Number.{unlawful, tail}
 use Rattle.numbers.specs.Calls.{told}
 use Rattle.numbers.proofs.ReadingBack.{tail_last, tail_more, tail_bad}
-use Rattle.numbers.proofs.ReadingSteps.{lift, number_starts, number_ends, lift_more, bound_at, grows_at, lawful_last, not_last}
+use Rattle.numbers.proofs.ReadingSteps.{lift, number_ends, lift_more, bound_at, grows_at, lawful_last, not_last}
 use Rattle.numbers.proofs.read_number.Goals as goal
-
-pub loop-i-init : goal.loop-i-init
-loop-i-init c =
-    let file = c.args.file.now in
-    let none : c.into_iter-i-iterator.result.count ≡ 0 = search rules in
-    let most : c.into_iter-i-iterator.result.iter.n ≡ 5 = search rules in
-    let lent : c.into_iter-i-iterator.result.iter.iter.rest.now ≡ c.iter.result.rest.now = search rules in
-    let all : c.into_iter-i-iterator.result.iter.iter.rest.now ≡ drop c.args.start file = lent ∙ c.iter.ensures.rest ∙ take_all _ _ (omega (arith, length-drop c.args.start file)) in
-    record {
-      few = omega arith;
-      to_take = omega arith;
-      scaled = rw none;
-      small = omega arith;
-      place = rw all (omega (arith, length-drop c.args.start file));
-      reads = rw (none, all) (number_starts file c.args.start);
-    }
 
 pub returns-then-misplaced-clause-told : goal.returns-then-misplaced-clause-told
 returns-then-misplaced-clause-told c =
@@ -93,11 +76,3 @@ loop-i-preserved c =
       place = omega arith;
       reads = rw (c.from-in-loop-i.ensures, s.2) d;
     }
-
-pub returns-clause-told : goal.returns-clause-told
-returns-clause-told c =
-    let l = c.loop-i in
-    let i = l.i-iterator.count in
-    let none = c.in-None.ensures.steps.0 (omega arith) in
-    let e = at_drop_all (tail i) l.i-iterator.iter.iter.rest.now 0 (omega (arith, none)) in
-    sym (ap (told c.args.file.now c.args.start) (l.invariant.reads ∙ ap (lift l.value l.scale i) e))

@@ -2,11 +2,8 @@ use Rattle.std.proofs.Common.{◌≡◌, ℕ, ◌+◌, ◌<◌, [], ◌∷◌, �
 use Rattle.std.proofs.lemmas.List.{length-take, length-drop}
 use Rattle.numbers.specs.Number.{encode}
 use Rattle.numbers.proofs.Encoded.{encode-some}
-use Rattle.numbers.proofs.WritingSteps.{left_all, left_more, left_last, written}
+use Rattle.numbers.proofs.WritingSteps.{left_more, left_last, written}
 use Rattle.numbers.proofs.write_number.Goals as goal
-
-pub loop-byte-init : goal.loop-byte-init
-loop-byte-init c = (4, left_all c.args.v _ c.ranges.v.fits)
 
 pub loop-byte-preserved : goal.loop-byte-preserved
 loop-byte-preserved c =

@@ -1,18 +1,16 @@
 -- One turn of a loop that checks: what is left to check tells what the whole does.
-use Rattle.std.proofs.Common.{◌≡◌, ℕ, ◌+◌, ◌<◌, ◌≤◌, min, Bool, true, false, List, [], ◌∷◌, ◌++◌, map, length, get_or, take, drop, IsErrAnd, Ok, Err, sym, refl, ap, ◌∙◌, ⊎_elim, zero-add, arith}
-use Rattle.std.proofs.lemmas.List.{at_drop_more, at_drop_all, take_more, length-take-le}
+use Rattle.std.proofs.Common.{◌≡◌, ℕ, ◌+◌, ◌<◌, ◌≤◌, min, Bool, true, false, List, [], ◌∷◌, map, length, get_or, take, drop, IsErrAnd, Ok, Err, sym, refl, ap, ◌∙◌, ⊎_elim, zero-add, arith}
+use Rattle.std.proofs.lemmas.List.{at_drop_more, at_drop_all}
 use Rattle.std.proofs.lemmas.List.FromFn.{length-enumerate_from, get_or-enumerate_from}
 use Rattle.std.proofs.lemmas.Slice.Zip.{length-zip, get_or-zip}
 use Rattle.std.proofs.lemmas.Bool.{cases_lt}
 use Rattle.std.specs.List.{zip, enumerate_from}
 use Rattle.refusal.specs.declared.fault.FieldFault.{FieldFault}
-use Rattle.refusal.specs.declared.fault.FieldFault.TheVariants as fault
 use Rattle.refusal.specs.declared.fault.SheetFault.{SheetFault}
 use Rattle.refusal.specs.declared.fault.SheetFault.TheVariants as sheet
 use Rattle.refusal.specs.declared.fault.Side.TheVariants.{Width, Height}
 use Rattle.book.proofs.Exits.{exit_at}
 use Rattle.formats.specs.declared.fields.Entry.{Entry}
-use Rattle.formats.specs.Rules.{entry_fits}
 use Rattle.formats.specs.Writing.{Check, both, pass_field, list_check, entries_check, size_check, sizes_check}
 
 pub both_ok : (first next : Check) → first ≡ Ok tt → both first next ≡ next
@@ -35,51 +33,9 @@ exit_tells whole r f out e = exit_at (λ (o : Check). o ≡ whole) r f out (sym 
 abbrev pub list_from : (List ℕ → ℕ → Bool) → (ℕ → FieldFault) → List ℕ → ℕ → Check
 list_from rule told xs k = list_check rule told (take k xs) (drop k xs)
 
-module _ (rule : List ℕ → ℕ → Bool) (told : ℕ → FieldFault) (xs : List ℕ) (i : ℕ) (so_far : list_from rule told xs 0 ≡ list_from rule told xs i) where
-  abbrev number_here : Check
-  number_here = pass_field (rule (take i xs) (get_or xs i 0)) (told i)
-
-  -- the number at i, then those behind it
-  list_turn : i < length xs → list_from rule told xs 0 ≡ both number_here (list_from rule told xs (i + 1))
-  list_turn h =
-      let at : length (take i xs) ≡ i = length-take-le i xs (omega arith) in
-      so_far
-      ∙ at_drop_more (list_check rule told (take i xs)) xs i 0 h
-      ∙ ap (λ (k : ℕ). both (pass_field (rule (take i xs) (get_or xs i 0)) (told k)) (list_check rule told (take i xs ++ (get_or xs i 0 ∷ [])) (drop (i + 1) xs))) at
-      ∙ ap (λ (before : List ℕ). both number_here (list_check rule told before (drop (i + 1) xs))) (sym (take_more xs i 0 h))
-
-  pub list_more : i < length xs → rule (take i xs) (get_or xs i 0) ≡ true → list_from rule told xs 0 ≡ list_from rule told xs (i + 1)
-  list_more h e = list_turn h ∙ both_ok number_here _ (passed _ (told i) e)
-
-  pub list_fails : i < length xs → rule (take i xs) (get_or xs i 0) ≡ false → list_from rule told xs 0 ≡ Err (sheet.Field (told i))
-  list_fails h e = list_turn h ∙ both_err number_here _ _ (refused _ (told i) e)
-
-  pub list_done : length xs ≤ i → list_from rule told xs 0 ≡ Ok tt
-  list_done h = so_far ∙ at_drop_all (list_check rule told (take i xs)) xs i h
-
 -- what the entries from index k on tell
 abbrev pub entries_from : ℕ → List Entry → ℕ → Check
 entries_from n xs k = entries_check n (take k xs) (drop k xs)
-
-module _ (n : ℕ) (xs : List Entry) (i : ℕ) (so_far : entries_from n xs 0 ≡ entries_from n xs i) (d : Entry) where
-  abbrev entry_here : Check
-  entry_here = pass_field (entry_fits n (take i xs) (get_or xs i d)) (fault.GroupEntry 0)
-
-  -- the entry at i, then those behind it
-  entries_turn : i < length xs → entries_from n xs 0 ≡ both entry_here (entries_from n xs (i + 1))
-  entries_turn h =
-      so_far
-      ∙ at_drop_more (entries_check n (take i xs)) xs i d h
-      ∙ ap (λ (before : List Entry). both entry_here (entries_check n before (drop (i + 1) xs))) (sym (take_more xs i d h))
-
-  pub entries_more : i < length xs → entry_fits n (take i xs) (get_or xs i d) ≡ true → entries_from n xs 0 ≡ entries_from n xs (i + 1)
-  entries_more h e = entries_turn h ∙ both_ok entry_here _ (passed _ (fault.GroupEntry 0) e)
-
-  pub entries_fail : i < length xs → entry_fits n (take i xs) (get_or xs i d) ≡ false → entries_from n xs 0 ≡ Err (sheet.Field (fault.GroupEntry 0))
-  entries_fail h e = entries_turn h ∙ both_err entry_here _ _ (refused _ (fault.GroupEntry 0) e)
-
-  pub entries_done : length xs ≤ i → entries_from n xs 0 ≡ Ok tt
-  entries_done h = so_far ∙ at_drop_all (entries_check n (take i xs)) xs i h
 
 -- what the lengths of the cells from k on tell
 abbrev pub sizes_from : {V : Type 0} → (V → List ℕ) → List V → List V → ℕ → Check

@@ -23,9 +23,5 @@ module _ (ns : List ℕ) (needed : ℕ) (reckoned : needed ≡ length (encode_al
       let front : put out 0 (encode_all ns) ≡ encode_all ns ++ drop (length (encode_all ns)) out = rw zero-add at (writing_frames out 0 (encode_all ns) (omega arith)) in
       subst (λ (n : ℕ). Written (Ok tt) (encode_all ns) out out' (Ok n)) (sym reckoned) (whole refl (omega arith) (here ∙ front))
 
--- the same of a file whose check passes
-pub written_so : {check : Check} {bs out out' : List ℕ} {r : Result ℕ SheetFault} → check ≡ Ok tt → Written (Ok tt) bs out out' r → Written check bs out out' r
-written_so {bs = bs} {out = out} {out' = out'} {r = r} lawful w = subst (λ (check : Check). Written check bs out out' r) (sym lawful) w
-
 pub written_refused : {check : Check} {bs out : List ℕ} (r : Result ℕ SheetFault) (f : SheetFault) → IsErrAnd r (λ y. y ≡ f) → check ≡ Err f → Written check bs out out r
 written_refused {check} {bs} {out} r f by e = exit_at (Written check bs out out) r f by (refused e refl)

@@ -1,5 +1,5 @@
 use Rattle.std.proofs.Common.{◌≡◌, ℕ, List, [], ◌∷◌, ◌++◌, get_or, take, sym, ap, ◌∙◌, append-nil}
-use Rattle.std.proofs.lemmas.List.{take_more, take_all}
+use Rattle.std.proofs.lemmas.List.{take_more}
 use Rattle.numbers.specs.Number.{encode, encode_all}
 use Rattle.numbers.proofs.Encoded.{encode_all_append}
 use Rattle.jobs.proofs.telling.number_file.Goals as goal
@@ -15,6 +15,3 @@ loop-number-preserved c =
     ∙ ap (λ (bs : List ℕ). encode_all (take i ns) ++ bs) (sym one)
     ∙ sym (encode_all_append (take i ns) (v ∷ []))
     ∙ ap encode_all (sym (take_more ns i 0 c.loop-number-test.true))
-
-pub returns : goal.returns
-returns c = c.loop-number.invariant ∙ ap encode_all (take_all c.loop-number.number-index c.args.numbers.now c.loop-number-test.false)

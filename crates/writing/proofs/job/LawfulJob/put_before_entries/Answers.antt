@@ -7,11 +7,6 @@ use Rattle.writing.proofs.PutTogether.{puts_join, puts_place, puts_same, columns
 use Rattle.writing.proofs.LawfulJobs.{lawful_small}
 use Rattle.writing.proofs.job.LawfulJob.put_before_entries.Goals as goal
 
-pub columns-requires : goal.columns-requires
-columns-requires g c =
-    let small = lawful_small (job_fields g.T.Numbered.numbers c.args.self.now.job.now) c.args.self.now.lawful in
-    omega (arith, puts_place c.number-3.ensures, puts_place c.number-4.ensures, small.widths, length-map (vec_items c.args.self.now.job.now.widths) g.T.Numbered.numbers, ap length c.deref.ensures.value)
-
 pub overflow_cast-len : goal.overflow_cast-len
 overflow_cast-len g c =
     let small = lawful_small (job_fields g.T.Numbered.numbers c.args.self.now.job.now) c.args.self.now.lawful in

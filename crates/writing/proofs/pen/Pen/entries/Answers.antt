@@ -1,6 +1,4 @@
-use Rattle.std.proofs.Common.{ap, arith}
-use Rattle.std.proofs.lemmas.List.{take_all}
-use Rattle.formats.specs.Files.{entry_numbers}
+use Rattle.std.proofs.Common.{arith}
 use Rattle.formats.specs.Reading.{entry_of}
 use Rattle.writing.proofs.PutTogether.{puts_join, puts_place, puts_same, entries_more, entries_place, entry_storable}
 use Rattle.writing.proofs.pen.Pen.entries.Goals as goal
@@ -11,10 +9,6 @@ overflow_cast-entry c =
 
 pub number-requires : goal.number-requires
 number-requires c = omega (arith, entries_place c.args.entries.now c.loop-entry.entry-index c.loop-entry.invariant)
-
-pub returns : goal.returns
-returns c =
-    puts_same (ap entry_numbers (take_all c.loop-entry.entry-index c.args.entries.now c.loop-entry-test.false)) c.loop-entry.invariant
 
 pub overflow_cast-entry-in-loop-entry : goal.overflow_cast-entry-in-loop-entry
 overflow_cast-entry-in-loop-entry c =

@@ -1,6 +1,6 @@
 use Rattle.std.proofs.Common.{arith}
-use Rattle.std.proofs.lemmas.List.{length-take, take_all}
-use Rattle.writing.proofs.PutTogether.{puts_more, puts_place, puts_same, storable_at}
+use Rattle.std.proofs.lemmas.List.{length-take}
+use Rattle.writing.proofs.PutTogether.{puts_more, puts_place, storable_at}
 use Rattle.writing.proofs.pen.Pen.list.Goals as goal
 
 pub overflow_cast-number : goal.overflow_cast-number
@@ -12,6 +12,3 @@ number-requires c = omega (arith, puts_place c.loop-number.invariant, length-tak
 pub loop-number-preserved : goal.loop-number-preserved
 loop-number-preserved c =
     puts_more c.args.numbers.now c.loop-number.number-index c.loop-number-test.true c.loop-number.invariant c.number.ensures
-
-pub returns : goal.returns
-returns c = puts_same (take_all c.loop-number.number-index c.args.numbers.now c.loop-number-test.false) c.loop-number.invariant

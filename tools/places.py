@@ -34,17 +34,23 @@ def functions(text):
             depth += {'(': 1, ')': -1}.get(text[i], 0)
             i += 1
         params = text[m.end():i - 1]
-        rest = text[i:]
-        body = re.search(r'^' + m['indent'] + r'\{(.*?)^' + m['indent'] + r'\}|^' + m['indent'] + r'\{\}', rest, re.M | re.S)
-        one = re.match(r'(?P<head>[^\n;{]*)\{\n(?P<body>.*?)\n' + m['indent'] + r'\}', rest, re.S)
-        if one:
-            head, text_of = one['head'], one['body']
-        elif body:
-            head, text_of = rest[:body.start()], body[1] or ''
-        else:
-            head, text_of = rest.split(';')[0], ''
+        head, inside = [], None
+        for line in text[i:].split('\n'):
+            if inside is not None:
+                if line == m['indent'] + '}':
+                    break
+                inside.append(line)
+            elif line == m['indent'] + '{' or line.endswith('{') and not head:
+                head.append(line[:-1])
+                inside = []
+            elif line.strip() == '{}' or line.endswith(';') or line.endswith('{}'):
+                head.append(line)
+                break
+            else:
+                head.append(line)
+        head, text_of = '\n'.join(head), '\n'.join(inside or [])
         result = re.match(r'\s*(?:->\s*([^\n{]*))?', head)[1] or ''
-        clauses = re.findall(r'^\s*(?:requires|ensures)\s+(?:\w+ )?\{(.*)\}\s*$', head, re.M)
+        clauses = re.findall(r'^\s*(?:requires|ensures)\s+(?:\w+ )?\{(.*)\};?\s*$', head, re.M)
         yield dict(line=text.count('\n', 0, m.start()) + 1, name=m['name'], params=params, result=result.strip(),
                    clauses=[c.strip() for c in clauses], body=text_of)
 

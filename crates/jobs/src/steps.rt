@@ -8,6 +8,7 @@ use sheet::Step;
 use std::alloc::{AllocError, Global};
 
 /// The edit that a group entry asks for.
+// (a function, since the types are those of other crates, which alone could convert them)
 fn entry_step<'a, T: Length>(entry: Entry) -> Step<'a, T>
     ensures { result ≡ step_of_entry entry }
 {

@@ -44,6 +44,7 @@ pub(crate) fn refusal_file(heap: Global, refusal: Refusal) -> Result<Vec<u8>, Al
 fn push_number(bytes: &mut Vec<u8>, number: u32) -> Result<(), AllocError>
     ensures { OnOk result (bytes.new.items ≡ bytes.old.items ++ encode number) }
 {
+    // (few bytes on the stack: writing goes into bytes that are lent)
     let mut groups = [0u8; NUMBER_ROOM];
     let size = write_number(&mut groups, 0, number);
     bytes.extend_from_slice(&groups[..size])
@@ -120,6 +121,7 @@ fn placed_file<T: Numbered>(
 }
 
 /// The index of the first entry that has the cell; how many there are, where none has.
+// (no `Option`: past the last entry stands the end of the file, and its place is what the register would tell)
 fn entry_with(cell: usize, entries: &[Entry]) -> usize
     ensures { result ≡ refused.entry_with_cell cell entries.now }
 {

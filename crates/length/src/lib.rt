@@ -27,7 +27,7 @@ pub trait Length: Copy {
     // what the calls answer, sums of any size included
     ghost kind: { Kind Self };
 
-    // the same for clauses
+    // the constant, for clauses
     ghost NUMBERS: { ℕ };
 
     /// How many numbers one length takes: 1 or 3.
@@ -79,6 +79,7 @@ pub trait Length: Copy {
 }
 
 /// A length that can be taken apart into its numbers and made of them, as files do: one text then reads and writes every kind.
+// (arrays of the most numbers, of which the first count: an array's length can be no constant of the trait, and a `Vec` takes a heap)
 pub trait Numbered: Length {
     // the numbers that a length is made of, process by process
     ghost numbers: { Self → List ℕ };

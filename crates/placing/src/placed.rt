@@ -15,8 +15,8 @@ use refusal::SheetFault;
 /// Places the sheet that the book and the group make up: fills the work list and the lists of left and bottom edges.
 ///
 /// Where no couple is forbidden, it refuses nothing but lists of the wrong length and unlawful sizes.
-// (five lists, and no struct of them: a clause sees what is lent in a struct as nested pairs, and a caller's promise would say less plainly what
-// each list held before and holds after)
+// (Five slices, and no struct that lends them, which was tried: a clause sees what such a struct hands back as nested pairs, and
+// would say less plainly what each list holds before and after.)
 pub fn place<B: Book, T: Length>(
     cells: &Arrangement<B>,
     widths: &[T],

@@ -57,7 +57,7 @@ pub(crate) fn check_lists(
     Ok(())
 }
 
-/// Whether two lengths are equal. (A kind of length need not have `==`: its order tells.)
+/// Whether two lengths are equal. (A kind of length need not have `==`, and to ask it would ask more of one: its order tells.)
 fn alike<T: Length>(a: T, b: T) -> bool
     ensures { Decides result (a ≡ b) }
 {
@@ -101,6 +101,7 @@ fn check_pairs<T: Length>(group: &Group, widths: &[T], heights: &[T]) -> Result<
     requires heights { length heights.now ≡ group.now.count }
     ensures { let g = group.now in let w = entries T.kind widths.now in let h = entries T.kind heights.now in MatchResult result (λ _. Each g.count (Matched (mate_of g) w h)) (λ f. Each g.count (Sized T.kind w h) → Unlawful T.kind (mate_of g) g.count w h f) }
 {
+    // (by number: each cell is compared with another of the lists)
     for cell in 0..group.count() {
         let Some(mate) = group.partner(cell) else {
             continue;

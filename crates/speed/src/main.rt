@@ -87,6 +87,7 @@ fn run(rt: &HostRuntime) -> anyhow::Result<()> {
     if !matches!(n, 8 | 16 | 32 | 64) {
         bail!(USAGE);
     }
+    // (four calls at four types; enums with `FromStr` would say the same words twice more)
     match (book.as_str(), lengths.as_str()) {
         ("pair", "one") => report::<_, Plain>(rt, sequence_pair(heap, n)?, n, count),
         ("pair", "three") => report::<_, PerProcess>(rt, sequence_pair(heap, n)?, n, count),

@@ -42,6 +42,7 @@ pub struct Job<T> {
     pub turn: Turn,
     /// How many numbers a length takes. A caller may give any count, and writing refuses those that no kind of length has.
     pub processes: usize,
+    // (two lists, since a placing takes each by itself, and each is refused by its own number)
     pub widths: Vec<T>,
     pub heights: Vec<T>,
     pub entries: Vec<Entry>,

@@ -12,6 +12,7 @@ pub struct Placement<T> {
     pub processes: usize,
     pub half_span: T,
     pub depth: T,
+    // (two lists, as a placing fills them)
     pub x: Vec<T>,
     pub y: Vec<T>,
 }

@@ -41,6 +41,7 @@ fn answer_with<B: Book + Drop, T: Numbered>(
     requires { Means lawful.now.job.now.count (order_fields lawful.now.job.now.order) (B.Book.order book) }
     ensures { IfOk result (λ v. Comes T.Length.kind T.Numbered.numbers (job_fields T.Numbered.numbers lawful.now.job.now) v.items) }
 {
+    // (each turn is a book of another type, and each arm a call at that type)
     match lawful.job.turn {
         Turn::AsItIs => answer_on(heap, book, lawful),
         Turn::Transposed => answer_on(heap, Transposed::new(book), lawful),

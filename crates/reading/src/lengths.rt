@@ -42,6 +42,7 @@ impl Allowed {
 
 impl<'a> Reader<'a> {
     /// One number of a length of a cell.
+    // (a cell and its side go on as the fault tells them, which names them apart)
     fn length_number(
         &mut self,
         allowed: Allowed,

@@ -13,6 +13,7 @@ use std::alloc::Global;
 
 impl<'a> Reader<'a> {
     /// The number of a row or an expression that comes after these; `list` is the list's place in the order.
+    // (kind, count and place of the list go through two private calls; a struct for them would be filled and taken apart in each)
     fn order_number(
         &mut self,
         kind: BookKind,

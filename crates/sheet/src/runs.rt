@@ -47,6 +47,7 @@ impl<B: Book> Sheet<B> {
         ensures filled { IfOk result (λ a. IsFilled (B.Book.order self.old.book).count a) }
         ensures came { IfOk result (λ a. Came T.Length.kind (sheet_of (B.Book.order self.old.book) self.old.group) (sheet_of (B.Book.order self.new.book) self.new.group) step.entry a) }
     {
+        // (steps are data, a caller's list of them: no closures, whose promises a list could not tell)
         let edited = match step {
             Step::Swap(a, b) => self.swap(a, b),
             Step::Pair(a, b) => self.pair(a, b),

@@ -1,4 +1,4 @@
-//! A book and a group over its cells, lent together. (What is asked of them stands in `couples`.)
+//! A book and a group over its cells, lent together.
 ghost use Rattle.std.specs.Prelude.{◌≡◌};
 
 use crate::table::Group;

@@ -7,4 +7,5 @@ mod edits;
 mod table;
 
 pub use arrangement::Arrangement;
+pub use couples::first_forbidden;
 pub use table::Group;

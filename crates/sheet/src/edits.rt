@@ -2,23 +2,23 @@
 ghost use Rattle.std.specs.Prelude.{◌≡◌, MatchResult};
 ghost use Rattle.placement.specs.Couples.{Clean};
 ghost use Rattle.placement.specs.Theorems.{CleanExactlyPlaceable};
-ghost use Rattle.group.specs.Arranged.{meaning_of};
+ghost use Rattle.group.specs.Group.{sheet_of};
 ghost use Rattle.sheet.specs.Edits.{Outcome, Regrouped, TellsFirst, swap, pair, centre, release};
 
 use crate::sheet::Sheet;
 use book::Book;
-use group::{Arrangement, Group};
+use group::{Group, first_forbidden};
 use placement::clean_exactly_placeable;
 use refusal::SheetFault;
 
-/// Refuses the sheet that the book and the group make up where some couple is forbidden, and tells the first; that is
-/// exactly where no lawful sizes have a placement.
-fn judge<B: Book>(cells: &Arrangement<B>) -> Result<(), SheetFault>
-    ensures couple { MatchResult result (λ _. Clean (meaning_of cells.now)) (TellsFirst (meaning_of cells.now)) }
+/// Refuses a sheet of which some couple is forbidden, and tells the first; that is exactly where no lawful sizes have a
+/// placement.
+fn judge<B: Book>(book: &B, group: &Group) -> Result<(), SheetFault>
+    ensures couple { MatchResult result (λ _. Clean (sheet_of (B.Book.order book.now) group.now)) (TellsFirst (sheet_of (B.Book.order book.now) group.now)) }
     ensures theorem { CleanExactlyPlaceable }
 {
     clean_exactly_placeable();
-    match cells.first_forbidden() {
+    match first_forbidden(book, group) {
         None => Ok(()),
         Some((first, second)) => Err(SheetFault::Unplaceable { first, second }),
     }
@@ -30,11 +30,7 @@ impl<B: Book> Sheet<B> {
         requires { group.count ≡ self.old.group.count }
         ensures { Regrouped (B.Book.order self.old.book) self.old.group group (B.Book.order self.new.book) self.new.group result }
     {
-        let cells = Arrangement {
-            book: &self.book,
-            group: &group,
-        };
-        judge(&cells)?;
+        judge(&self.book, &group)?;
         self.group = group;
         Ok(())
     }
@@ -46,11 +42,7 @@ impl<B: Book> Sheet<B> {
         // what does not lie to each other is not swapped: a number that is no cell, or a cell and itself
         self.book.relation(a, b)?;
         self.book.swap(a, b)?;
-        let cells = Arrangement {
-            book: &self.book,
-            group: &self.group,
-        };
-        if let Err(fault) = judge(&cells) {
+        if let Err(fault) = judge(&self.book, &self.group) {
             let _ = self.book.swap(a, b);
             return Err(fault);
         }

@@ -4,7 +4,6 @@ ghost use Rattle.placing.specs.Placing.{Placing, five};
 
 use crate::sheet::Sheet;
 use book::Book;
-use group::Arrangement;
 use length::Length;
 use placing::Extent;
 use refusal::SheetFault;
@@ -22,10 +21,6 @@ impl<B: Book> Sheet<B> {
     ) -> Result<Extent<T>, SheetFault>
         ensures { Placing T.Length.kind (sheet_of (B.Book.order self.now.book) self.now.group) (five widths.now heights.now work.old x.old y.old) (five widths.now heights.now work.new x.new y.new) result }
     {
-        let cells = Arrangement {
-            book: &self.book,
-            group: &self.group,
-        };
-        placing::place(&cells, widths, heights, work, x, y)
+        placing::place(&self.book, &self.group, widths, heights, work, x, y)
     }
 }

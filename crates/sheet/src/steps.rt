@@ -14,6 +14,7 @@ pub enum Step<'a, T> {
 }
 
 /// The lists that a placing filled, and how far the placement reaches.
+// (lists side by side, as a placing fills them)
 #[derive(Drop)]
 pub struct Coordinates<T> {
     pub work: Vec<T>,
@@ -22,7 +23,8 @@ pub struct Coordinates<T> {
     pub extent: Extent<T>,
 }
 
-/// What a step came to. (A run goes on after a refusal, so that is an answer and no error.)
+/// What a step came to.
+// (three outcomes in one enum: a run goes on after a refusal, and a `Result` with two of them under `Ok` would be opened twice)
 #[derive(Drop)]
 pub enum Answer<T> {
     Edited,

@@ -5,7 +5,7 @@ use Rattle.group.specs.Arranged.{meaning_of}
 use Rattle.group.proofs.LawfulSheet.{lawful_arranged}
 use Rattle.placing.specs.Sizes.{Unlawful, entries}
 use Rattle.placing.specs.Placing.{five, Misfitting, Fitting, Placing, misfitting, unlawful, placed}
-use Rattle.placing.proofs.placed.place.Goals as goal
+use Rattle.placing.proofs.placed.place_cells.Goals as goal
 
 pub returns-in_err-check_lists : goal.returns-in_err-check_lists
 returns-in_err-check_lists g c clean =

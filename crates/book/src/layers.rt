@@ -13,7 +13,7 @@ use std::marker::PhantomData;
 /// A way to turn a book: what becomes of each relation.
 ///
 /// It keeps the four relations, undoes itself, and turns opposites into opposites, so a turned book is a book.
-pub trait Turn {
+pub trait Turning {
     ghost turn: { Relation → Relation };
 
     /// The relation, turned.
@@ -27,7 +27,7 @@ pub trait Turn {
 #[derive(Clone, Copy)]
 pub struct Diagonal;
 
-impl Turn for Diagonal {
+impl Turning for Diagonal {
     ghost turn = { transpose };
 
     ghost lawful = { transpose_turn };
@@ -46,7 +46,7 @@ impl Turn for Diagonal {
 #[derive(Clone, Copy)]
 pub struct Mirror;
 
-impl Turn for Mirror {
+impl Turning for Mirror {
     ghost turn = { flip };
 
     ghost lawful = { flip_turn };
@@ -75,7 +75,7 @@ pub type Transposed<B> = Turned<Diagonal, B>;
 /// A book seen in a mirror: left and right are exchanged.
 pub type Flipped<B> = Turned<Mirror, B>;
 
-impl<T: Turn, B: Book> Turned<T, B> {
+impl<T: Turning, B: Book> Turned<T, B> {
     /// The book, turned.
     pub fn new(book: B) -> Turned<T, B>
         ensures { result.book ≡ book }
@@ -95,7 +95,7 @@ impl<T: Turn, B: Book> Turned<T, B> {
     }
 }
 
-impl<T: Turn, B: Book> Book for Turned<T, B> {
+impl<T: Turning, B: Book> Book for Turned<T, B> {
     ghost order = { λ s. turned T.turn (B.Book.order s.book) };
 
     ghost lawful = { λ s. turned_laws T.lawful (B.Book.order s.book) (B.Book.lawful s.book) };
@@ -114,7 +114,7 @@ impl<T: Turn, B: Book> Book for Turned<T, B> {
 }
 
 /// Turning twice the same way means the same book.
-pub fn turned_twice<T: Turn, B: Book>(book: B) -> Turned<T, Turned<T, B>>
+pub fn turned_twice<T: Turning, B: Book>(book: B) -> Turned<T, Turned<T, B>>
     ensures { SameOrder (B.Book.order book) (turned T.turn (turned T.turn (B.Book.order result.book.book))) }
 {
     Turned::new(Turned::new(book))

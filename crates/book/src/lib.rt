@@ -12,7 +12,7 @@ mod slicing_book;
 
 pub use asking::{is_above, is_left};
 pub use book::{Book, cell_within, within};
-pub use layers::{Diagonal, Flipped, Mirror, Transposed, Turn, Turned, turned_twice};
+pub use layers::{Diagonal, Flipped, Mirror, Transposed, Turned, Turning, turned_twice};
 pub use relation::{MOST_CELLS, Relation};
 pub use sequence_pair::SequencePair;
 pub use slicing::JOINED;

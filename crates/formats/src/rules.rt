@@ -6,6 +6,7 @@ use crate::fields::{BookKind, Entry};
 use book::{JOINED, MOST_CELLS};
 
 /// Whether there can be so many cells.
+// (a book refuses by the same rule; a file's fault is told at its byte, so here is the rule alone)
 pub fn is_count(n: usize) -> bool
     ensures { result ≡ rule.is_cell_count n }
 {

@@ -6,7 +6,7 @@ use crate::node_set::{MOST_NODES, NodeSet};
 
 /// Nodes, which are the numbers below a count, and steps from one to the next: for each node the set of those that come
 /// next after it.
-// (an array and a count, without a heap: a placing takes no memory)
+// (an array and a count: a graph is a `Copy` value without a heap, as an `ArrayVec` is not)
 #[derive(Clone, Copy)]
 pub struct Graph {
     pub(crate) nodes: usize,

@@ -30,8 +30,8 @@ impl Group {
     pub fn partner(&self, a: usize) -> Option<usize>
         ensures { result ≡ mate_of self.now a }
     {
-        // (this is asked in the innermost loop of judging an edit: `get` and `map(usize::from)` were tried, and are a third
-        // slower or more)
+        // (asked in the innermost loop of judging an edit: with `get` and `map(usize::from)`, which were tried, judging is a third
+        // slower, and misses the bar that bench/ states)
         if a >= self.count {
             return None;
         }

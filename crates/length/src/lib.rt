@@ -254,6 +254,7 @@ impl Length for PerProcess {
 
     ghost counted = { Prim.search rules };
 
+    // (not by `every`, which takes one length)
     fn at_most(self, other: PerProcess) -> bool {
         self.first <= other.first && self.second <= other.second && self.third <= other.third
     }

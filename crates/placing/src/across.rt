@@ -25,6 +25,7 @@ fn image_number(group: &Group, a: usize) -> usize
     group.partner(a).unwrap_or(group.count() + a)
 }
 
+// (The graph downward is built alike, in `downward`, which says why both have their own text.)
 /// Adds the two steps that stand for `a` left of `b`: from `b` to `a`, and from the image of `a` to that of `b`.
 fn link_side(group: &Group, graph: &mut Graph, a: usize, b: usize)
     requires nodes { graph.old.nodes ≡ 2 * group.now.count }
@@ -66,6 +67,7 @@ fn node_values<B: Book, T: Length>(
     widths: &[T],
     values: &mut [T],
 ) -> Option<T>
+    // (how long lent slices are is a fact between parameters, and no type has it)
     requires widths { length widths.now ≡ count_of cells.now }
     requires values { length values.old ≡ 2 * count_of cells.now }
     ensures found { IfSome result (λ d. GivenNodes T.Length.kind (meaning_of cells.now) (entries T.kind widths.now) (entries T.kind values.new) d) }

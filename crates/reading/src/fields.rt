@@ -42,6 +42,7 @@ impl<'a> Reader<'a> {
         ensures within { IfOk result (λ k. (k ≡ 1) ⊎ (k ≡ 3)) }
         ensures told { Took (file.choice (file.only_if rule.is_processes)) self.old result self.new }
     {
+        // (a count, as a job and a placement hold it)
         self.choice(|number| (number == 1 || number == 3).then_some(number as usize))
     }
 

@@ -30,6 +30,7 @@ pub(crate) struct Columns<T> {
 }
 
 impl Allowed {
+    // (the rule of the field, as the formats define it; a length's own test is of a whole length)
     fn allows(self, number: u32) -> bool
         ensures { result ≡ rule_of self number }
     {

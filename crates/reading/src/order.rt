@@ -48,6 +48,7 @@ impl<'a> Reader<'a> {
         ensures { TookAs vec_items (file.order_list_at kind n list size) self.old result self.new }
     {
         let mut numbers = Vec::new(heap);
+        // (no iterator: each number is judged by those before it)
         for _ in 0..size {
             let number = self.order_number(kind, n, list, &numbers)?;
             numbers.push(number)?;

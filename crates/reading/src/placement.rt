@@ -14,6 +14,7 @@ use refusal::{FieldFault, Side};
 use std::alloc::Global;
 
 /// A placement with one number a length, or with one for each of three processes.
+// (no enum in common with `AnyJob`, which says why)
 #[derive(Drop)]
 pub enum AnyPlacement {
     One(Placement<Plain>),

@@ -72,6 +72,7 @@ pub fn run<B: Book + Drop, T: Length>(
 {
     let mut sheet = Sheet::new(book);
     let mut answers = Vec::new(heap);
+    // (no `map` with a `collect`: its closure would change the sheet that it captures)
     for step in steps {
         let answer = sheet.step(heap, *step)?;
         answers.push(answer)?;

@@ -9,7 +9,7 @@ impl Dice {
         Dice(1)
     }
 
-    /// A number below `n`, or 0 where there is none.
+    /// A number below `n`, or 0 where there is none. (`swaps` has dice of its own, and says why.)
     pub(crate) fn below(&mut self, n: usize) -> usize {
         self.0 = self
             .0

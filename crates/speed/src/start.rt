@@ -78,6 +78,7 @@ pub(crate) fn group<B: Book>(sheet: &mut Sheet<B>) -> Result<(), SheetFault> {
 }
 
 /// The lists of a placing, as their owner holds them.
+// (lists side by side, as a placing takes them)
 #[derive(Drop)]
 pub(crate) struct Held<T> {
     widths: Vec<T>,

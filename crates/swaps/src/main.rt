@@ -44,7 +44,7 @@ fn second_row() -> [usize; MOST_CELLS] {
     )
 }
 
-/// What the swaps came to.
+/// What the swaps came to. (`speed` takes each edge into its sum, and has a tally of its own.)
 #[derive(Clone, Copy, Default)]
 struct Tally {
     done: u32,

@@ -127,7 +127,7 @@ const STEPS: [Step<'static, Plain>; 9] = [
     Step::Place(&WIDTHS, &HEIGHTS),
 ];
 
-/// The name of a cell.
+/// The name of a cell, or words for a number that is none.
 fn name(cell: usize) -> &'static str {
     NAMES.get(cell).copied().unwrap_or("no cell")
 }

@@ -14,6 +14,7 @@ use length::Numbered;
 use refusal::SheetFault;
 
 /// A lawful placement: one that has a file.
+// (a struct beside `LawfulJob`: what is lawful of each is a fact of its own, and one struct for both would need a trait for the checks)
 #[derive(Drop)]
 pub struct LawfulPlacement<'a, T: Numbered> {
     pub placement: &'a Placement<T>,

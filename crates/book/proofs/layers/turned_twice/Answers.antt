@@ -8,6 +8,6 @@ pub returns : goal.returns
 returns g c =
     let book = c.args.book in
     let o = g.B.Book.order in
-    let f = g.T.Turn.turn in
+    let f = g.T.Turning.turn in
     subst (λ x. SameOrder (o book) (turned f (turned f (o x)))) (sym (ap (λ x. x.book) c.new-2.ensures ∙ c.new.ensures))
-    (turned_back g.met.T.Turn.lawful (o book) (g.met.B.Book.lawful book))
+    (turned_back g.met.T.Turning.lawful (o book) (g.met.B.Book.lawful book))

@@ -1,6 +1,6 @@
 use Rattle.std.proofs.Common.{◌∙◌}
 use Rattle.book.proofs.Exits.{exit_at}
-use Rattle.placing.proofs.LawfulSheet.{lawful_sheet}
+use Rattle.group.proofs.LawfulSheet.{lawful_sheet}
 use Rattle.sheet.specs.Edits.{Outcome}
 use Rattle.sheet.proofs.Same.{same_refl}
 use Rattle.sheet.proofs.Outcomes.{done_edit, undone_edit}

@@ -1,7 +1,7 @@
 use Rattle.std.proofs.Common.{sym, refl, ◌∙◌}
 use Rattle.book.proofs.Cells.{answered}
 use Rattle.book.proofs.Exits.{exit_at}
-use Rattle.placing.proofs.LawfulSheet.{lawful_sheet}
+use Rattle.group.proofs.LawfulSheet.{lawful_sheet}
 use Rattle.sheet.specs.Edits.{swap, Outcome, unfit}
 use Rattle.sheet.proofs.Same.{same_refl}
 use Rattle.sheet.proofs.Outcomes.{sound_there, done_edit, undone_edit}

@@ -1,5 +1,5 @@
 -- The graph across: what is linked is what precedes, by numbers; its paths are short, and its nodes light.
-use Rattle.std.proofs.Common.{◌≡◌, ℕ, ◌+◌, ◌*◌, ◌<◌, sym, refl, ap, ◌∙◌, subst, subst₂, inl, inr, arith}
+use Rattle.std.proofs.Common.{◌≡◌, ℕ, ◌+◌, ◌*◌, ◌<◌, ◌⊎◌, sym, refl, ap, ◌∙◌, subst, subst₂, inl, inr, arith}
 use Rattle.book.specs.Order.{LeftOf}
 use Rattle.length.specs.Kind.{Kind, Laws}
 use Rattle.placement.specs.Meaning.{Meaning, Cell, Lawful}
@@ -7,13 +7,11 @@ use Rattle.placement.specs.Couples.{Clean}
 use Rattle.placement.specs.Across.{Node, cell, Image, of_mate, of_free, node_width, Precedes, straight, mirrored}
 use Rattle.placement.proofs.Mates.{grouped_or_free}
 use Rattle.graph.specs.declared.graph.Graph.{Graph}
-use Rattle.graph.specs.Steps.{Step, Stepless}
+use Rattle.graph.specs.Steps.{Step}
 use Rattle.graph.specs.Heaviest.{Short, Light}
-use Rattle.placing.specs.Adding.{Adds}
 use Rattle.placing.specs.Codes.{node_of, image_of}
-use Rattle.placing.specs.Graphs.{Sides, SideOf, SidesBy}
+use Rattle.placing.specs.Graphs.{Sides, TwoSteps, OneOf, Built, AcrossFrom, left, not_left}
 use Rattle.placing.specs.Values.{AllSizes}
-use Rattle.placing.proofs.Adding.{Below, adds_like}
 use Rattle.placing.proofs.NodeCodes.{code, low, high, number, low_is_cell, high_is_image, code_of_node}
 use Rattle.placing.proofs.CodedChains.{path_is_short}
 use Rattle.placing.proofs.LongestChain.{as_wide_as_cell}
@@ -21,16 +19,6 @@ use Rattle.placing.proofs.LongestChain.{as_wide_as_cell}
 -- the number of a cell's image
 abbrev pub facing_number : Meaning → ℕ → ℕ
 facing_number m a = image_of m.order.count a (m.mate a)
-
-abbrev pub SideTo : Meaning → ℕ → ℕ → ℕ → ℕ → Type 0
-SideTo m a b x y = LeftOf m.order a b × SideOf m.order.count m.mate a b x y
-
-pub sides_by_all : (m : Meaning) {g h : Graph} (a : ℕ) → Adds g h (Below m.order.count (SideTo m a)) → Adds g h (SidesBy m a)
-sides_by_all m a so =
-    adds_like
-    (λ x y s. (s.0, s.2.0, s.2.1))
-    (λ x y s. (s.0, s.1.apart.b_in, (s.1, s.2)))
-    so
 
 module _ {m : Meaning} (lawful : Lawful m) where
   abbrev node : ℕ → Node
@@ -55,31 +43,50 @@ module _ {m : Meaning} (lawful : Lawful m) where
   image_code (of_mate {a} mate) = sym (ap (image_of m.order.count a) mate.told)
   image_code (of_free {a} free) = sym (ap (image_of m.order.count a) free.told)
 
-  by_precedes : (v u : ℕ) → Below m.order.count (SidesBy m) v u → Precedes m (node u) (node v)
-  by_precedes v u (a, below, (b, left, inl e)) =
+  preceded_by : {a b : ℕ} {r : TwoSteps} (v u : ℕ) → AcrossFrom m a b r → OneOf r v u → Precedes m (node u) (node v)
+  preceded_by {a} {b} v u (left over) (inl e) =
       let n = m.order.count in
       subst₂ (Precedes m)
-      (sym (ap node e.1 ∙ low_is_cell n a left.apart.a_in))
-      (sym (ap node e.0 ∙ low_is_cell n b left.apart.b_in))
-      (straight left)
-  by_precedes v u (a, below, (b, left, inr e)) =
+      (sym (ap node e.1 ∙ low_is_cell n a over.apart.a_in))
+      (sym (ap node e.0 ∙ low_is_cell n b over.apart.b_in))
+      (straight over)
+  preceded_by {a} {b} v u (left over) (inr e) =
       subst₂ (Precedes m) (sym (ap node e.1)) (sym (ap node e.0))
-      (mirrored left (facing_is_image b left.apart.b_in) (facing_is_image a left.apart.a_in))
+      (mirrored over (facing_is_image b over.apart.b_in) (facing_is_image a over.apart.a_in))
+  preceded_by v u (not_left not) none = absurd none
 
-  codes_by : {p q : Node} → Precedes m p q → Below m.order.count (SidesBy m) (code_in q) (code_in p)
-  codes_by (straight {a} {b} left) = (a, left.apart.a_in, (b, left, inl (refl, refl)))
-  codes_by (mirrored {a} {b} left of_b of_a) = (a, left.apart.a_in, (b, left, inr (image_code of_a, image_code of_b)))
+  image_below : {a : ℕ} {u : Node} → Cell m a → Image m a u → code_in u < 2 * m.order.count
+  image_below {a} here (of_mate {b = b} mate) = let mate_in : b < m.order.count = (lawful.both_ways a b mate).cell in omega arith
+  image_below here (of_free free) = omega (arith, here)
 
-  precedes_by : (v u : ℕ) → Precedes m (node u) (node v) → Below m.order.count (SidesBy m) v u
-  precedes_by v u step =
-      subst₂ (Below m.order.count (SidesBy m)) (code_of_node m.order.count v) (code_of_node m.order.count u) (codes_by step)
+  -- q and p are the nodes that are given a step for a left of b
+  abbrev Puts : ℕ → ℕ → Node → Node → Type 0
+  Puts a b p q = ((code_in q ≡ b) × (code_in p ≡ a)) ⊎ ((code_in q ≡ facing_number m a) × (code_in p ≡ facing_number m b))
 
-  pub sides_of_all : (g h : Graph) → Stepless (2 * m.order.count) g → Adds g h (Below m.order.count (SidesBy m)) → Sides m h
-  sides_of_all g h bare so = record {
-    count = so.count ∙ bare.count;
-    only = λ v u step. elim (so.only v u step) [ inl old ↦ absurd (bare.nothing v u old) | inr new ↦ by_precedes v u new ];
-    all = λ v u step. so.there v u (precedes_by v u step);
-  }
+  put_by : {p q : Node} → Precedes m p q → (a b : ℕ) × LeftOf m.order a b × Puts a b p q × (code_in q < 2 * m.order.count) × (code_in p < 2 * m.order.count)
+  put_by (straight {a} {b} over) = (a, b, over, inl (refl, refl), omega (arith, over.apart.b_in), omega (arith, over.apart.a_in))
+  put_by (mirrored {a} {b} over of_b of_a) = (a, b, over, inr (image_code of_a, image_code of_b), image_below over.apart.a_in of_a, image_below over.apart.b_in of_b)
+
+  by_left : {a b : ℕ} {r : TwoSteps} (p q : Node) → AcrossFrom m a b r → LeftOf m.order a b → Puts a b p q → OneOf r (code_in q) (code_in p)
+  by_left p q (left it) over puts = puts
+  by_left p q (not_left not) over puts = absurd (not over)
+
+  pub sides_given :
+      {n : ℕ} {gives : ℕ → ℕ → TwoSteps → Type 0} (g : Graph) → n ≡ m.order.count →
+      Built (2 * n) gives (λ a b. (a < n) × (b < n)) g →
+      ((a b : ℕ) (r : TwoSteps) → gives a b r → AcrossFrom m a b r) →
+      Sides m g
+  sides_given {n} {gives} g same so of =
+      let step : (p q : Node) → Precedes m p q → Step g (code_in q) (code_in p)
+      = λ p q before.
+      let (a, b, over, puts, q_in, p_in) = put_by before in
+      let s = so.all a b (omega (arith, over.apart.a_in, same), omega (arith, over.apart.b_in, same)) in
+      s.2 (code_in q) (code_in p) (by_left p q (of a b s.0 s.1) over puts) (omega (arith, q_in, same)) (omega (arith, p_in, same)) in
+      record {
+        count = omega (arith, so.count, same);
+        only = λ v u step. let s = so.only v u step in preceded_by v u (of s.0 s.1 s.3 s.4) s.5;
+        all = λ v u before. subst₂ (Step g) (code_of_node m.order.count v) (code_of_node m.order.count u) (step (node u) (node v) before);
+      }
 
 -- the widths of the cells, and again of their images
 abbrev pub Twice : {V : Type 0} → ℕ → (ℕ → V) → (ℕ → V) → Type 0

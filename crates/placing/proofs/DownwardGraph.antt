@@ -1,5 +1,6 @@
 -- The graph downward: what is linked is what is under, and its heaviest paths are the bottoms.
-use Rattle.std.proofs.Common.{◌≡◌, ℕ, ◌⊎◌, List, [], ◌∷◌, Some, sym, refl, ap, ◌∙◌, subst, ap₂, inl, inr, arith}
+use Rattle.std.proofs.Common.{◌≡◌, ℕ, ◌<◌, ◌⊎◌, List, [], ◌∷◌, Option, Some, None, sym, refl, ap, ◌∙◌, subst, subst₂, ap₂, inl, inr, arith}
+use Rattle.std.specs.Prelude.{unwrap_or}
 use Rattle.book.specs.Order.{AboveOf}
 use Rattle.length.specs.Kind.{Kind, Laws}
 use Rattle.length.proofs.Joins.{join_same, join_like}
@@ -9,41 +10,51 @@ use Rattle.placement.specs.Downward.{total, Under, Descent, Bottom}
 use Rattle.placement.proofs.DownwardLoops.{under_to_cell}
 use Rattle.placement.proofs.ShortDescents.{descent_is_short}
 use Rattle.graph.specs.declared.graph.Graph.{Graph}
-use Rattle.graph.specs.Steps.{Step, Stepless}
+use Rattle.graph.specs.Steps.{Step}
 use Rattle.graph.specs.Heaviest.{Heaviest, Short, Light}
-use Rattle.placing.specs.Adding.{Adds}
-use Rattle.placing.specs.Graphs.{Falls, FallsBy}
+use Rattle.placing.specs.Graphs.{Falls, TwoSteps, OneOf, Built, DownFrom, above, not_above}
 use Rattle.placing.specs.Reach.{Reached}
 use Rattle.placing.specs.Values.{AllSizes, GivenDown}
-use Rattle.placing.proofs.Adding.{Below, adds_like}
 use Rattle.placing.proofs.HeaviestSteps.{path_same}
 
--- of the steps that the cell a gives, those that lead to b
-abbrev pub FallTo : Meaning → ℕ → ℕ → ℕ → ℕ → Type 0
-FallTo m a b x y = AboveOf m.order a b × (((x ≡ a) ⊎ (m.mate a ≡ Some x)) × (y ≡ b))
-
-pub falls_by_all : (m : Meaning) {g h : Graph} (a : ℕ) → Adds g h (Below m.order.count (FallTo m a)) → Adds g h (FallsBy m a)
-falls_by_all m a so =
-    adds_like
-    (λ x y s. let to = s.2 in (subst (AboveOf m.order a) (sym to.1.1) to.0, to.1.0))
-    (λ x y s. (y, s.0.apart.b_in, (s.0, (s.1, refl))))
-    so
+mate_or_self : (o : Option ℕ) (a x : ℕ) → x ≡ unwrap_or o a → (x ≡ a) ⊎ (o ≡ Some x)
+mate_or_self None a x e = inl e
+mate_or_self (Some c) a x e = inr (ap Some (sym e))
 
 module _ {m : Meaning} (lawful : Lawful m) where
-  under_by : (v u : ℕ) → Under m v u → Below m.order.count (FallsBy m) v u
-  under_by v u (inl over) = (v, over.apart.a_in, (over, inl refl))
-  under_by v u (inr (c, mate, over)) = (c, over.apart.a_in, (over, inr (lawful.both_ways v c mate).told))
+  under_by : {a b : ℕ} {r : TwoSteps} (v u : ℕ) → DownFrom m a b r → OneOf r v u → Under m v u
+  under_by v u (above over) (inl (from, to)) = inl (subst₂ (AboveOf m.order) (sym from) (sym to) over)
+  under_by {a} v u (above over) (inr (from, to)) =
+      let below : AboveOf m.order a u = subst (AboveOf m.order a) (sym to) over in
+      elim (mate_or_self (m.mate a) a v from) [
+        | inl e ↦ inl (subst (λ (x : ℕ). AboveOf m.order x u) (sym e) below)
+        | inr told ↦ inr (a, lawful.both_ways a v (record { cell = over.apart.a_in; told = told }), below)
+      ]
+  under_by v u (not_above not) none = absurd none
 
-  by_under : (v u : ℕ) → Below m.order.count (FallsBy m) v u → Under m v u
-  by_under v u (a, low, (over, inl e)) = inl (subst (λ (x : ℕ). AboveOf m.order x u) (sym e) over)
-  by_under v u (a, low, (over, inr told)) = inr (a, lawful.both_ways a v (record { cell = low; told = told }), over)
+  by_above : {a b : ℕ} {r : TwoSteps} (x : ℕ) → DownFrom m a b r → AboveOf m.order a b → (x ≡ a) ⊎ (m.mate a ≡ Some x) → OneOf r x b
+  by_above x (above it) over (inl e) = inl (e, refl)
+  by_above {a} x (above it) over (inr told) = inr (sym (ap (λ (o : Option ℕ). unwrap_or o a) told), refl)
+  by_above x (not_above not) over its = absurd (not over)
 
-  pub falls_of_all : (g h : Graph) → Stepless m.order.count g → Adds g h (Below m.order.count (FallsBy m)) → Falls m h
-  falls_of_all g h bare so = record {
-    count = so.count ∙ bare.count;
-    only = λ v u step. elim (so.only v u step) [ inl old ↦ absurd (bare.nothing v u old) | inr new ↦ by_under v u new ];
-    all = λ v u under. so.there v u (under_by v u under);
-  }
+  pub falls_given :
+      {n : ℕ} {gives : ℕ → ℕ → TwoSteps → Type 0} (g : Graph) → n ≡ m.order.count →
+      Built n gives (λ a b. (a < n) × (b < n)) g →
+      ((a b : ℕ) (r : TwoSteps) → gives a b r → DownFrom m a b r) →
+      Falls m g
+  falls_given {n} {gives} g same so of =
+      let step : (a b v : ℕ) → AboveOf m.order a b → (v ≡ a) ⊎ (m.mate a ≡ Some v) → Cell m v → Step g v b
+      = λ a b v over its here.
+      let s = so.all a b (omega (arith, over.apart.a_in, same), omega (arith, over.apart.b_in, same)) in
+      s.2 v b (by_above v (of a b s.0 s.1) over its) (omega (arith, here, same)) (omega (arith, over.apart.b_in, same)) in
+      record {
+        count = so.count ∙ same;
+        only = λ v u step. let s = so.only v u step in under_by v u (of s.0 s.1 s.3 s.4) s.5;
+        all = λ v u under. elim under [
+          | inl over ↦ step v u v over (inl refl) over.apart.a_in
+          | inr (c, mate, over) ↦ step c u v over (inr (lawful.both_ways v c mate).told) mate.cell
+        ];
+      }
 
 module _ {m : Meaning} {g : Graph} (falls : Falls m g) where
   pub falls_short : Lawful m → Clean m → Short g

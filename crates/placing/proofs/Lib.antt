@@ -5,7 +5,7 @@ pub mod CodedChains
 pub mod LongestChain
 pub mod EdgeRoom
 pub mod Filling
-pub mod Adding
+pub mod Giving
 pub mod Dealt
 pub mod DownwardGraph
 pub mod Limits

@@ -1,4 +1,3 @@
-pub mod Adding
 pub mod Codes
 pub mod Edges
 pub mod Graphs

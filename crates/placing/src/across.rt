@@ -1,15 +1,15 @@
 //! What stands before and after each cell, and the longest chain: the heaviest paths of the graph in which each node, a
 //! cell or an image, steps to those that precede it.
-ghost use Rattle.std.specs.Prelude.{◌≡◌, ℕ, ◌+◌, ◌*◌, ◌<◌, ◌⊎◌, length, IsSomeAnd, IfSome, MatchOption};
+ghost use Rattle.std.specs.Prelude.{◌≡◌, ℕ, ◌+◌, ◌*◌, ◌<◌, length, IsSomeAnd, IfSome, MatchOption};
 ghost use Rattle.placement.specs.Couples.{Clean};
 ghost use Rattle.group.specs.Group.{mate_of};
 ghost use Rattle.group.specs.Arranged.{meaning_of, count_of};
-ghost use Rattle.placing.specs.Adding.{Adds};
 ghost use Rattle.placing.specs.Codes.{image_of, mirrored};
-ghost use Rattle.placing.specs.Graphs.{Sides, SideOf, SidesBy};
+ghost use Rattle.placing.specs.Graphs.{Sides, AcrossFrom};
 ghost use Rattle.placing.specs.Sizes.{entries};
 ghost use Rattle.placing.specs.Values.{AllSizes, GivenAcross, GivenNodes, SmallAcross};
 
+use crate::graphs::{TwoSteps, graph_of};
 use crate::reach::reach;
 use book::{Book, is_left};
 use graph::Graph;
@@ -25,27 +25,16 @@ fn image_number(group: &Group, a: usize) -> usize
     group.partner(a).unwrap_or(group.count() + a)
 }
 
-// (The graph downward is built alike, in `downward`, which says why both have their own text.)
-/// Adds the two steps that stand for `a` left of `b`: from `b` to `a`, and from the image of `a` to that of `b`.
-fn link_side(group: &Group, graph: &mut Graph, a: usize, b: usize)
-    requires nodes { graph.old.nodes ≡ 2 * group.now.count }
-    requires cells { (a < group.now.count) × (b < group.now.count) }
-    ensures { Adds graph.old graph.new (SideOf group.now.count (mate_of group.now) a b) }
+/// For `a` left of `b`, the steps from `b` to `a`, and from the image of `a` to that of `b`; else none.
+fn steps_across<B: Book>(cells: &Arrangement<B>, a: usize, b: usize) -> TwoSteps
+    ensures { AcrossFrom (meaning_of cells.now) a b result }
 {
-    graph.link(b, a);
-    graph.link(image_number(group, a), image_number(group, b));
-}
-
-/// Adds the steps for each cell that `a` is left of.
-fn link_sides<B: Book>(cells: &Arrangement<B>, graph: &mut Graph, a: usize)
-    requires { graph.old.nodes ≡ 2 * count_of cells.now }
-    ensures { Adds graph.old graph.new (SidesBy (meaning_of cells.now) a) }
-{
-    for b in 0..cells.book.count() {
-        if is_left(cells.book, a, b) {
-            link_side(cells.group, graph, a, b);
-        }
+    if !is_left(cells.book, a, b) {
+        return None;
     }
+    let from = image_number(cells.group, a);
+    let to = image_number(cells.group, b);
+    Some(((b, a), (from, to)))
 }
 
 /// The graph of the nodes with steps to those that precede each; never `None`, since so many nodes are not too many.
@@ -53,11 +42,7 @@ fn sides<B: Book>(cells: &Arrangement<B>) -> Option<Graph>
     ensures { MatchOption result ⊥ (λ g. Sides (meaning_of cells.now) g) }
 {
     let n = cells.book.count();
-    let mut graph = Graph::new(2 * n)?;
-    for a in 0..n {
-        link_sides(cells, &mut graph, a);
-    }
-    Some(graph)
+    graph_of(2 * n, n, |a, b| steps_across(cells, a, b))
 }
 
 /// Writes for each node the join of the chains into it, and answers the longest chain. An image is as wide as its cell, so

@@ -1,44 +1,28 @@
 //! The bottoms and the depth: the heaviest paths of the graph in which each cell steps to those under it.
-ghost use Rattle.std.specs.Prelude.{◌≡◌, ◌<◌, ◌⊎◌, length, Some, MatchOption};
+ghost use Rattle.std.specs.Prelude.{◌≡◌, length, MatchOption};
 ghost use Rattle.placement.specs.Couples.{Clean};
-ghost use Rattle.group.specs.Group.{mate_of};
 ghost use Rattle.group.specs.Arranged.{meaning_of, count_of};
-ghost use Rattle.placing.specs.Adding.{Adds};
-ghost use Rattle.placing.specs.Graphs.{Falls, FallsBy};
+ghost use Rattle.placing.specs.Graphs.{Falls, DownFrom};
 ghost use Rattle.placing.specs.Sizes.{entries};
 ghost use Rattle.placing.specs.Values.{AllSizes, GivenDown};
 
+use crate::graphs::{TwoSteps, graph_of};
 use crate::reach::reach;
 use book::{Book, is_above};
 use graph::Graph;
-use group::{Arrangement, Group};
+use group::Arrangement;
 use length::Length;
 
-// (The graph across is built alike, in `across`. One text for both would need a trait with ghost members for the relation and
-// the steps, and two types to carry them: more to read than the two loops.)
-
-/// Adds the steps to `b` from `a` and from its mate.
-fn link_fall(group: &Group, graph: &mut Graph, a: usize, b: usize)
-    requires nodes { graph.old.nodes ≡ group.now.count }
-    requires cells { (a < group.now.count) × (b < group.now.count) }
-    ensures { Adds graph.old graph.new (λ x y. ((x ≡ a) ⊎ (mate_of group.now a ≡ Some x)) × (y ≡ b)) }
+/// For `a` above `b`, the steps to `b` from `a` and from its mate; else none.
+fn steps_down<B: Book>(cells: &Arrangement<B>, a: usize, b: usize) -> TwoSteps
+    ensures { DownFrom (meaning_of cells.now) a b result }
 {
-    graph.link(a, b);
-    if let Some(mate) = group.partner(a) {
-        graph.link(mate, b);
+    if !is_above(cells.book, a, b) {
+        return None;
     }
-}
-
-/// Adds the steps from `a` and from its mate to each cell below `a`.
-fn link_falls<B: Book>(cells: &Arrangement<B>, graph: &mut Graph, a: usize)
-    requires { graph.old.nodes ≡ count_of cells.now }
-    ensures { Adds graph.old graph.new (FallsBy (meaning_of cells.now) a) }
-{
-    for b in 0..cells.book.count() {
-        if is_above(cells.book, a, b) {
-            link_fall(cells.group, graph, a, b);
-        }
-    }
+    // (of a free cell the same step twice)
+    let mate = cells.group.partner(a).unwrap_or(a);
+    Some(((a, b), (mate, b)))
 }
 
 /// The graph of the cells with steps to those under each; never `None`, since so many nodes are not too many.
@@ -46,11 +30,7 @@ fn falls<B: Book>(cells: &Arrangement<B>) -> Option<Graph>
     ensures { MatchOption result ⊥ (λ g. Falls (meaning_of cells.now) g) }
 {
     let n = cells.book.count();
-    let mut graph = Graph::new(n)?;
-    for a in 0..n {
-        link_falls(cells, &mut graph, a);
-    }
-    Some(graph)
+    graph_of(n, n, |a, b| steps_down(cells, a, b))
 }
 
 /// Writes the bottoms to `y`, and answers the depth; always `Some` where no couple is forbidden and all heights are sizes.

@@ -4,6 +4,7 @@
 mod across;
 mod downward;
 mod edges;
+mod graphs;
 mod placed;
 mod reach;
 mod sizes;

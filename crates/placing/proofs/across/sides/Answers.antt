@@ -1,32 +1,13 @@
-use Rattle.std.proofs.Common.{arith}
-use Rattle.group.specs.Arranged.{meaning_of}
+use Rattle.std.proofs.Common.{arith, of_calls}
 use Rattle.group.proofs.LawfulSheet.{lawful_arranged}
-use Rattle.placing.specs.Graphs.{SidesBy}
-use Rattle.placing.proofs.Adding.{adds_none, adds_more, below_all}
-use Rattle.placing.proofs.AcrossGraph.{sides_of_all}
+use Rattle.length.proofs.Answered.{cases_map}
+use Rattle.placing.proofs.AcrossGraph.{sides_given}
 use Rattle.placing.proofs.across.sides.Goals as goal
-
-pub returns-in_err-graph : goal.returns-in_err-graph
-returns-in_err-graph g c =
-    let laws = g.met.B.Book.lawful c.args.cells.now.book.now in
-    rw c.from_residual.ensures (omega (arith, c.in_err-graph.ensures, c.count-n.ensures, laws.few))
-
-pub loop-a-init : goal.loop-a-init
-loop-a-init g c = adds_none c.in_ok-graph.graph (SidesBy (meaning_of c.args.cells.now))
-
-pub link_sides-requires : goal.link_sides-requires
-link_sides-requires g c = omega (arith, c.loop-a.invariant.count, c.in_ok-graph.ensures.1.count, c.count-n.ensures)
-
-pub loop-a-preserved : goal.loop-a-preserved
-loop-a-preserved g c =
-    adds_more (SidesBy (meaning_of c.args.cells.now)) c.loop-a.a c.loop-a.invariant c.link_sides.ensures
 
 pub returns : goal.returns
 returns g c =
-    let o = g.B.Book.order c.args.cells.now.book.now in
-    let m = meaning_of c.args.cells.now in
     let laws = g.met.B.Book.lawful c.args.cells.now.book.now in
-    let bare = c.in_ok-graph.ensures.1 in
-    sides_of_all (lawful_arranged c.args.cells.now laws) c.in_ok-graph.graph c.loop-a.graph
-    (record { count = omega (arith, bare.count, c.count-n.ensures); nothing = bare.nothing })
-    (below_all (SidesBy m) c.loop-a.a o.count (omega (arith, c.count-n.ensures, c.loop-a-test.false, c.loop-a.auto.a-end)) c.loop-a.invariant)
+    cases_map c.graph_of.result
+    (λ many. omega (arith, many, c.count-n.ensures, laws.few))
+    (λ x so. sides_given (lawful_arranged c.args.cells.now laws) x c.count-n.ensures so (λ a b r given. search of_calls))
+    c.graph_of.ensures

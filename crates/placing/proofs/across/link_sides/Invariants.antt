@@ -1,8 +1,0 @@
-use Rattle.group.specs.Arranged.{meaning_of}
-use Rattle.placing.specs.Adding.{Adds}
-use Rattle.placing.proofs.Adding.{Below}
-use Rattle.placing.proofs.AcrossGraph.{SideTo}
-use Rattle.placing.proofs.across.link_sides.Given as goal
-
-abbrev pub invariant-loop-b : goal.invariant-loop-b
-invariant-loop-b g l = Adds l.initial.graph l.graph (Below l.b (SideTo (meaning_of l.cells) l.a))

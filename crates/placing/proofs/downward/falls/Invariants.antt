@@ -1,8 +1,0 @@
-use Rattle.group.specs.Arranged.{meaning_of}
-use Rattle.placing.specs.Adding.{Adds}
-use Rattle.placing.specs.Graphs.{FallsBy}
-use Rattle.placing.proofs.Adding.{Below}
-use Rattle.placing.proofs.downward.falls.Given as goal
-
-abbrev pub invariant-loop-a : goal.invariant-loop-a
-invariant-loop-a g l = Adds l.initial.graph l.graph (Below l.a (FallsBy (meaning_of l.cells)))

@@ -3,8 +3,9 @@
 
     python3 tools/places.py [FOLDER]        FOLDER is a checkout (the default is this one)
 
-Each kind of place is found by its shape alone: a place that it lists may be just right as it stands, and docs/DESIGN-PASS.md
-says of each what became of it. The kinds, by the number of the point there:
+Each kind of place is found by its shape, and sentinels, enums and functions that do by hand what the library has also by the
+names that they had here: a place that it lists may be just right as it stands, and docs/DESIGN-PASS.md says of each what
+became of it. The kinds, by the number of the point there:
 
   1 flag      a function that answers a bool and writes through a `&mut` parameter: a flag with a value beside it
   1 number    a function called `number` or `from_number`: a number that stands for a kind

@@ -2,7 +2,6 @@
 ghost use Rattle.std.specs.Prelude.{◌≡◌};
 ghost use Rattle.placement.specs.Couples.{Clean};
 ghost use Rattle.group.specs.Group.{sheet_of};
-ghost use Rattle.group.specs.Arranged.{meaning_of};
 ghost use Rattle.placing.specs.Placing.{Placing, five};
 
 use crate::sizes::{check_lists, check_sizes};
@@ -12,32 +11,6 @@ use group::{Arrangement, Group, first_forbidden};
 use length::Length;
 use placement::{rule_is_best, rule_places};
 use refusal::SheetFault;
-
-/// Places the sheet that the cells make up.
-fn place_cells<B: Book, T: Length>(
-    cells: &Arrangement<B>,
-    widths: &[T],
-    heights: &[T],
-    work: &mut [T],
-    x: &mut [T],
-    y: &mut [T],
-) -> Result<Extent<T>, SheetFault>
-    ensures { Clean (meaning_of cells.now) → Placing T.Length.kind (meaning_of cells.now) (five widths.now heights.now work.old x.old y.old) (five widths.now heights.now work.new x.new y.new) result }
-{
-    let n = cells.book.count();
-    check_lists(n, widths.len(), heights.len(), work.len(), x.len(), y.len())?;
-    check_sizes(cells.group, widths, heights)?;
-    rule_places::<T>();
-    rule_is_best::<T>();
-    if let Some(extent) = give(cells, widths, heights, work, x, y) {
-        return Ok(extent);
-    }
-    // lawful sizes that have no placement: some couple is forbidden
-    let Some((first, second)) = first_forbidden(cells.book, cells.group) else {
-        unreachable!();
-    };
-    Err(SheetFault::Unplaceable { first, second })
-}
 
 /// Places the sheet that the book and the group make up: fills the work list and the lists of left and bottom edges.
 ///
@@ -56,12 +29,18 @@ pub fn place<B: Book, T: Length>(
 ) -> Result<Extent<T>, SheetFault>
     ensures { group.now.count ≡ (B.Book.order book.now).count → Clean (sheet_of (B.Book.order book.now) group.now) → Placing T.Length.kind (sheet_of (B.Book.order book.now) group.now) (five widths.now heights.now work.old x.old y.old) (five widths.now heights.now work.new x.new y.new) result }
 {
-    if book.count() != group.count() {
-        // a group over other cells makes up no sheet with the book, and has no placement
-        return Err(SheetFault::Unplaceable {
-            first: 0,
-            second: 0,
-        });
+    let n = group.count();
+    check_lists(n, widths.len(), heights.len(), work.len(), x.len(), y.len())?;
+    check_sizes(group, widths, heights)?;
+    rule_places::<T>();
+    rule_is_best::<T>();
+    if book.count() == n {
+        let cells = Arrangement { book, group };
+        if let Some(extent) = give(&cells, widths, heights, work, x, y) {
+            return Ok(extent);
+        }
     }
-    place_cells(&Arrangement { book, group }, widths, heights, work, x, y)
+    // (no couple, where the group is over other cells: with the book it makes up no sheet)
+    let (first, second) = first_forbidden(book, group).unwrap_or((0, 0));
+    Err(SheetFault::Unplaceable { first, second })
 }

@@ -1,6 +1,6 @@
 -- Rows as lists: where a number stands, that none stands twice, and what two rows keep when one is put after the other.
-use Rattle.std.proofs.Common.{◌≡◌, ℕ, zero, suc, ◌+◌, ◌-◌, ◌<◌, ◌≤◌, ◌⊎◌, Bool, true, false, eqb, List, [], ◌∷◌, ◌++◌, length, get_or, take, Decides, sym, refl, ◌∙◌, inl, inr, ⊎_elim, add_comm, arith, length-append, length-take}
-use Rattle.std.proofs.lemmas.List.{length_push, get_or_append_left, get_or-append-add, get_or-append_right, get_or-take, get_or_default}
+use Rattle.std.proofs.Common.{◌≡◌, ℕ, zero, suc, ◌+◌, ◌-◌, ◌<◌, ◌≤◌, ◌⊎◌, Bool, true, false, eqb, List, [], ◌∷◌, ◌++◌, length, get_or, Decides, sym, refl, ◌∙◌, inl, inr, ⊎_elim, add_comm, arith, length-append}
+use Rattle.std.proofs.lemmas.List.{length_push, get_or_append_left, get_or-append-add, get_or-append_right, get_or_default}
 use Rattle.std.proofs.lemmas.List.Elements.{contains_decides}
 use Rattle.std.proofs.lemmas.Bool.Decides.{Decides-like, Decides-eqb, Decides-by_or, eqb_tells, not_from_Decides}
 use Rattle.std.proofs.lemmas.Map.Keys.{IsDistinct-from_apart}
@@ -15,17 +15,6 @@ Stands row a = (i : ℕ) × (i < length row) × (get_or row i 0 ≡ a)
 -- no number stands twice
 abbrev pub Single : List ℕ → Type 0
 Single row = (i j : ℕ) → i < length row → j < length row → get_or row i 0 ≡ get_or row j 0 → i ≡ j
-
--- a number at a place before i stands among the first i, and the other way round
-pub stands_before : (row : List ℕ) (i j : ℕ) {a : ℕ} → j < i → i < length row → get_or row j 0 ≡ a → Stands (take i row) a
-stands_before row i j h at e = let l = length-take i row in (j, omega arith, get_or-take i row j 0 h ∙ e)
-
-pub before_stands : (row : List ℕ) (i : ℕ) {a : ℕ} → i < length row → Stands (take i row) a → (j : ℕ) × (j < i) × (get_or row j 0 ≡ a)
-before_stands row i at s =
-    let l = length-take i row in
-    let k = s.1 in
-    let low : s.0 < i = omega arith in
-    (s.0, low, sym (get_or-take i row s.0 0 low) ∙ s.2)
 
 -- what a search of a row finds
 pub found_stands : (k : ℕ) (row : List ℕ) (found : Bool) → IsAnyAnswer (λ y t. eqb y k ≡ t) row found → Decides found (Stands row k)

@@ -159,6 +159,14 @@ tells_holds n expr o e {a} {b} t =
     let apart : Apart o a b = record { a_in = omega arith; b_in = omega arith; differ = places.2 } in
     (apart, told_one one two (tells_told (e.each a b apart)) (tells_told t))
 
+-- lawful rows are never refused
+pub rows_lawful : {n : ℕ} {first second : List ℕ} {f : SheetFault} → Countable n → Row n first → Row n second → NoRows n first second f → ⊥
+rows_lawful c one two (rows.bad_count out) = out c
+rows_lawful c one two (rows.first_length _ long) = long one.long
+rows_lawful c one two (rows.second_length _ _ long) = long two.long
+rows_lawful c one two (rows.first_breaks {i} _ _ _ b) = one.whole i b.here
+rows_lawful c one two (rows.second_breaks {i} _ _ _ b) = two.whole i b.here
+
 -- the rows of the one part that is left, as they are lent to the sequence-pair
 module _ (n : ℕ) (expr : List ℕ) (w : Waiting) (whole : Whole n expr w) (first second : List ℕ) (lent_first : first ≡ w.first.items) (lent_second : second ≡ w.second.items) where
   first_is : first ≡ upper whole.part
@@ -167,10 +175,10 @@ module _ (n : ℕ) (expr : List ℕ) (w : Waiting) (whole : Whole n expr w) (fir
   second_is : second ≡ leaves whole.part
   second_is = lent_second ∙ whole.second
 
-  whole_first : Row n first
+  pub whole_first : Row n first
   whole_first = subst (Row n) (sym first_is) (upper_row n whole.part whole.row)
 
-  whole_second : Row n second
+  pub whole_second : Row n second
   whole_second = subst (Row n) (sym second_is) whole.row
 
   pub whole_expression : (o : Order) → Rows n first second o → Expression n expr o
@@ -184,8 +192,4 @@ module _ (n : ℕ) (expr : List ℕ) (w : Waiting) (whole : Whole n expr w) (fir
 
   -- which are never refused
   pub whole_lawful : {f : SheetFault} → Countable n → NoRows n first second f → ⊥
-  whole_lawful c (rows.bad_count out) = out c
-  whole_lawful c (rows.first_length _ long) = long whole_first.long
-  whole_lawful c (rows.second_length _ _ long) = long whole_second.long
-  whole_lawful c (rows.first_breaks {i} _ _ _ b) = whole_first.whole i b.here
-  whole_lawful c (rows.second_breaks {i} _ _ _ b) = whole_second.whole i b.here
+  whole_lawful c = rows_lawful c whole_first whole_second

@@ -9,12 +9,12 @@ use crate::relation::Relation;
 pub fn is_left<B: Book>(book: &B, a: usize, b: usize) -> bool
     ensures { Decides result (LeftOf (B.Book.order book.now) a b) }
 {
-    book.relation(a, b) == Ok(Relation::Left)
+    matches!(book.relation(a, b), Ok(Relation::Left))
 }
 
 /// Is `a` above `b`? (No, where they are not two different cells.)
 pub fn is_above<B: Book>(book: &B, a: usize, b: usize) -> bool
     ensures { Decides result (AboveOf (B.Book.order book.now) a b) }
 {
-    book.relation(a, b) == Ok(Relation::Above)
+    matches!(book.relation(a, b), Ok(Relation::Above))
 }

@@ -17,14 +17,17 @@ fn places_of(n: usize, list: usize, row: &[usize]) -> Result<[u8; MOST_CELLS], F
     ensures { MatchResult result (λ places. Inverse n row.now places) (λ f. BreaksAt n list row.now f) }
 {
     let mut places = [0; MOST_CELLS];
+    // (which cells came: a table, since to search the row so far for each of its cells costs a step for each two of them)
+    let mut came = [false; MOST_CELLS];
     for (i, cell) in row.iter().enumerate() {
-        if *cell >= n || row[..i].contains(cell) {
+        if *cell >= n || came[*cell] {
             return Err(FieldFault::Order {
                 at: 0,
                 list,
                 place: i,
             });
         }
+        came[*cell] = true;
         places[*cell] = i as u8;
     }
     Ok(places)

@@ -8,7 +8,7 @@ pub const MOST_NODES: usize = 128;
 
 /// A set of numbers below `MOST_NODES`, one binary digit a number.
 #[derive(Clone, Copy)]
-pub struct NodeSet(u128);
+pub struct NodeSet(pub(crate) u128);
 
 impl NodeSet {
     /// The set of none.

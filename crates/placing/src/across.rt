@@ -38,6 +38,7 @@ fn steps_across<B: Book>(cells: &Arrangement<B>, a: usize, b: usize) -> TwoSteps
 }
 
 /// The graph of the nodes with steps to those that precede each; never `None`, since so many nodes are not too many.
+#[inline(always)]
 fn sides<B: Book>(cells: &Arrangement<B>) -> Option<Graph>
     ensures { MatchOption result ⊥ (λ g. Sides (meaning_of cells.now) g) }
 {

@@ -26,6 +26,7 @@ fn steps_down<B: Book>(cells: &Arrangement<B>, a: usize, b: usize) -> TwoSteps
 }
 
 /// The graph of the cells with steps to those under each; never `None`, since so many nodes are not too many.
+#[inline(always)]
 fn falls<B: Book>(cells: &Arrangement<B>) -> Option<Graph>
     ensures { MatchOption result ⊥ (λ g. Falls (meaning_of cells.now) g) }
 {

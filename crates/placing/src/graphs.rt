@@ -10,6 +10,8 @@ pub(crate) type TwoSteps = Option<((usize, usize), (usize, usize))>;
 
 /// The graph of so many nodes with the steps that `steps` gives for each two of `n` cells, and no others; `None` exactly where
 /// so many nodes are too many.
+// (a graph is two thousand bytes, and each call that hands one on as a value copies it: so the calls that do are hints to inline)
+#[inline(always)]
 pub(crate) fn graph_of<F: Fn(usize, usize) -> TwoSteps>(
     nodes: usize,
     n: usize,

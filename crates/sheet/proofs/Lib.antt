@@ -1,4 +1,5 @@
 pub mod Same
+pub mod Restored
 pub mod Outcomes
 pub mod Released
 pub mod SwapChecks

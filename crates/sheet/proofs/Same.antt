@@ -52,6 +52,9 @@ laws_there same laws =
       above_transitive = λ a b c p q. above_there same (laws.above_transitive a b c (above_there back p) (above_there back q));
     }
 
+pub order_trans : {o q r : Order} → SameOrder o q → SameOrder q r → SameOrder o r
+order_trans p s = record { count = s.count ∙ p.count; each = λ x y d. s.each x y (apart_there p d) ∙ p.each x y d }
+
 -- Sheets
 
 pub same_refl : (m : Meaning) → SameSheet m m
@@ -92,3 +95,6 @@ clean_there same clean x y f = clean x y (forbidden_there (same_sym same) f)
 
 pub first_there : {m p : Meaning} {x y : ℕ} → SameSheet m p → First m x y → First p x y
 first_there same f = record { here = forbidden_there same f.here; lowest = λ u v h. f.lowest u v (forbidden_there (same_sym same) h) }
+
+pub same_trans : {m p q : Meaning} → SameSheet m p → SameSheet p q → SameSheet m q
+same_trans s t = record { order = order_trans s.order t.order; mate = λ a h. t.mate a (cell_back (same_sym s) h) ∙ s.mate a h }

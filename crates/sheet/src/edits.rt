@@ -6,7 +6,7 @@ ghost use Rattle.group.specs.Group.{sheet_of};
 ghost use Rattle.sheet.specs.Edits.{Outcome, Regrouped, TellsFirst, swap, pair, centre, release};
 
 use crate::sheet::Sheet;
-use book::Book;
+use book::{Book, within};
 use group::{Group, first_forbidden};
 use placement::clean_exactly_placeable;
 use refusal::SheetFault;
@@ -39,8 +39,10 @@ impl<B: Book> Sheet<B> {
     pub fn swap(&mut self, a: usize, b: usize) -> Result<(), SheetFault>
         ensures { Outcome (B.Book.order self.old.book) self.old.group (swap a b) (B.Book.order self.new.book) self.new.group result }
     {
-        // what does not lie to each other is not swapped: a number that is no cell, or a cell and itself
-        self.book.relation(a, b)?;
+        within(self.book.count(), a, b)?;
+        if a == b {
+            return Err(SheetFault::SameCell { cell: a });
+        }
         self.book.swap(a, b)?;
         if let Err(fault) = judge(&self.book, &self.group) {
             let _ = self.book.swap(a, b);

@@ -2,29 +2,39 @@
 //! standard output.
 #![tactic(auto)]
 
-ghost use Rattle.std.specs.Prelude.{◌≤◌, vec_len, IfOk};
+ghost use Rattle.std.specs.Prelude.{◌≤◌, IfOk};
 
 use jobs::answer;
-use std::alloc::Global;
 use std::io;
-use std::io::{Read, Write};
+use std::io::{ErrorKind, Read, Write};
 
 /// How many bytes of its input the program reads at most; no lawful job has as many.
 const MOST_READ: usize = 4096;
 
-/// Reads until the input ends, or so many bytes are read; it does not matter how few a pipe gives at a time.
-fn read_job<R: Read + Drop>(heap: Global, input: R) -> io::Result<Vec<u8>>
-    ensures { IfOk result (λ job. vec_len job ≤ 4096) }
+/// Reads until the room is full or the input ends, and answers how many bytes were read. A pipe may give fewer at a time than are
+/// asked for, and a signal may interrupt a read: both are gone on with.
+// (no `Vec` and `read_to_end`: the room bounds every read, and reading needs no heap that it could be short of)
+fn read_job<R: Read>(input: &mut R, room: &mut [u8; MOST_READ]) -> io::Result<usize>
+    ensures { IfOk result (λ n. n ≤ 4096) }
 {
-    let mut job = Vec::new(heap);
-    input.take(MOST_READ as u64).read_to_end(&mut job)?;
-    // (`take` gives no more; what reading to its end promises of an unknown input does not say so)
-    job.truncate(MOST_READ);
-    Ok(job)
+    let mut held = 0;
+    for _ in 0..u64::MAX {
+        if held == MOST_READ {
+            break;
+        }
+        match input.read(&mut room[held..]) {
+            Ok(0) => break,
+            Ok(more) => held += more,
+            Err(error) if error.kind() == ErrorKind::Interrupted => {}
+            Err(error) => return Err(error),
+        }
+    }
+    Ok(held)
 }
 
 fn main(rt: HostRuntime) -> anyhow::Result<()> {
-    let job = read_job(rt.alloc(), rt.stdin())?;
-    rt.stdout().write_all(&answer(rt.alloc(), &job)?)?;
+    let mut room = [0; MOST_READ];
+    let held = read_job(&mut rt.stdin(), &mut room)?;
+    rt.stdout().write_all(&answer(rt.alloc(), &room[..held])?)?;
     Ok(())
 }

@@ -28,6 +28,11 @@ const WIDTHS: [Plain; 6] = [Plain(6), Plain(4), Plain(4), Plain(5), Plain(5), Pl
 
 const HEIGHTS: [Plain; 6] = [Plain(3), Plain(2), Plain(2), Plain(2), Plain(2), Plain(1)];
 
+/// The error that would end the tour if its channel were refused, which it is not; so every error that comes out is one of writing.
+fn refused(_fault: SheetFault) -> io::Error {
+    io::Error::other("the channel is refused")
+}
+
 /// What a fault says, in words and as the five numbers that come out.
 fn print_refusal(rt: &HostRuntime, fault: SheetFault) -> io::Result<()> {
     let refusal = Refusal::from(fault);
@@ -64,33 +69,31 @@ fn print_table<B: Book>(rt: &HostRuntime, book: &B) -> io::Result<()> {
 }
 
 /// The channel as two rows: its relations, a swap, and a filling that is refused.
-fn tour_rows(rt: &HostRuntime) -> anyhow::Result<()> {
+fn tour_rows(rt: &HostRuntime) -> io::Result<()> {
     println!(rt;
         "One channel as a sequence-pair: how the cell on the left of a line lies to each cell."
     )?;
-    let mut channel = SequencePair::new(NAMES.len(), &FIRST_ROW, &SECOND_ROW)?;
+    let mut channel = SequencePair::new(NAMES.len(), &FIRST_ROW, &SECOND_ROW).map_err(refused)?;
     print_table(rt, &channel)?;
     println!(rt; "The amplifier and the bias cell change places.")?;
-    channel.swap(AMPLIFIER, BIAS)?;
+    channel.swap(AMPLIFIER, BIAS).map_err(refused)?;
     print_table(rt, &channel)?;
     println!(rt; "A second row that names the amplifier twice makes no book.")?;
     if let Err(fault) = channel.fill(NAMES.len(), &FIRST_ROW, &[1, 0, 2, 3, 0, 4]) {
         print_refusal(rt, fault)?;
     }
-    println!(rt; "")?;
-    Ok(())
+    println!(rt; "")
 }
 
 /// The channel as a slicing expression, as it is and turned.
-fn tour_layers(rt: &HostRuntime) -> anyhow::Result<()> {
-    let channel = Slicing::new(NAMES.len(), &EXPRESSION)?;
+fn tour_layers(rt: &HostRuntime) -> io::Result<()> {
+    let channel = Slicing::new(NAMES.len(), &EXPRESSION).map_err(refused)?;
     println!(rt; "The same channel as a slicing expression.")?;
     print_table(rt, &channel)?;
     println!(rt; "Transposed: what was above is right of, and what was left of is below.")?;
     print_table(rt, &Transposed::new(channel))?;
     println!(rt; "Flipped: left and right are exchanged.")?;
-    print_table(rt, &Flipped::new(channel))?;
-    Ok(())
+    print_table(rt, &Flipped::new(channel))
 }
 
 /// Two widths, each in three processes at once, added and halved.
@@ -189,11 +192,11 @@ fn print_answer(rt: &HostRuntime, answer: &Answer<Plain>) -> io::Result<()> {
 }
 
 /// The channel as a sheet: edits, a refused swap, and placements.
-fn tour_sheet(rt: &HostRuntime) -> anyhow::Result<()> {
+fn tour_sheet(rt: &HostRuntime) -> io::Result<()> {
     println!(rt;
         "The channel as a sheet: its pairs mirror each other, amp and bias are centred on the axis."
     )?;
-    let channel = SequencePair::new(NAMES.len(), &FIRST_ROW, &SECOND_ROW)?;
+    let channel = SequencePair::new(NAMES.len(), &FIRST_ROW, &SECOND_ROW).map_err(refused)?;
     let answers = run(rt.alloc(), channel, &STEPS)?;
     for (step, answer) in STEPS.iter().zip(&answers) {
         print_step(rt, *step)?;
@@ -202,7 +205,7 @@ fn tour_sheet(rt: &HostRuntime) -> anyhow::Result<()> {
     Ok(())
 }
 
-fn main(rt: HostRuntime) -> anyhow::Result<()> {
+fn main(rt: HostRuntime) -> io::Result<()> {
     tour_rows(&rt)?;
     tour_layers(&rt)?;
     tour_lengths(&rt)?;

@@ -28,7 +28,7 @@ const WIDTHS: [Plain; 6] = [Plain(6), Plain(4), Plain(4), Plain(5), Plain(5), Pl
 
 const HEIGHTS: [Plain; 6] = [Plain(3), Plain(2), Plain(2), Plain(2), Plain(2), Plain(1)];
 
-/// The error that would end the tour if its channel were refused, which it is not; so every error that comes out is one of writing.
+/// The error that would end the tour if its channel were refused, which it is not; so every error that comes out is one of writing or of memory.
 fn refused(_fault: SheetFault) -> io::Error {
     io::Error::other("the channel is refused")
 }
